@@ -1,0 +1,14 @@
+pub mod Numbers
+pub mod Sign
+pub mod Signed
+pub mod Order
+pub mod Monotone
+pub mod Exact
+pub mod Near
+pub mod Error
+pub mod Magnitude
+pub mod NoNan
+pub mod Formats
+pub mod Pattern
+pub mod Whole
+pub mod Digits

@@ -1,0 +1,21 @@
+-- Small facts on the natural numbers that several files use. Assumes nothing.
+use mathlib.Core.Path.{_≡_}
+use mathlib.Core.Logic.{_⊎_, inl, inr}
+use Prim.Native.Nat.{ℕ, _*_, _≤_, _<_}
+use native.Mathlib.Nat.{eq-zero-or-pos, add-mul, mul-add, mul-comm, mul-assoc, mul-left-comm, mul-pos}
+use native.Mathlib.Omega.{arith}
+use mathlib.Core.Bool.{Bool, true, false, not}
+use lib.Dec.{T, ltb, ltb→lt, nltb→le}
+
+-- for `simp`: products multiplied out, and the factors of each in one order
+pub ruleset spread = (add-mul, mul-add, mul-assoc, mul-comm, mul-left-comm)
+
+pub less-or : (a b : ℕ) → (a < b) ⊎ (b ≤ a)
+less-or a b = go (ltb a b) (ltb→lt a b) (nltb→le a b)
+  where
+    go : (t : Bool) → (T t → a < b) → (T (not t) → b ≤ a) → (a < b) ⊎ (b ≤ a)
+    go true h k = inl (h tt)
+    go false h k = inr (k tt)
+
+pub zero-factor : (x y : ℕ) → 0 < y → x * y ≤ 0 → x ≡ 0
+zero-factor x y Y h = elim (eq-zero-or-pos x) [ inl z ↦ z | inr p ↦ (let l = mul-pos p Y in omega arith) ]

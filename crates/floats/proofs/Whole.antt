@@ -1,0 +1,153 @@
+-- Near 2 ^ (prec - 1) a format has whole numbers only, so a sum there rounds to the closest one: the ground of rounding to a whole
+-- number by adding and taking away. And what `roundEven` gives is that whole number, exactly. Assumes nothing.
+use mathlib.Core.Path.{_≡_, refl, sym, _∙_, ap, subst}
+use mathlib.Core.Bool.{Bool, true, false, true≢false}
+use Prim.Native.Nat.{ℕ, zero, suc, _+_, _-_, _*_, _/_, _%_, _^_, _<_, _≤_, compare, Ordering, Ordering·lt, Ordering·eq, Ordering·gt}
+use native.Mathlib.Nat.{mul-one, mul-assoc, mul-right-comm, mul-comm, mul-pos, le-trans, le-of-eq, lt-of-lt-of-le, lt-of-le-of-lt, le-antisymm, not-le-of-lt, lt-of-not-le, mul-le-mul-right, mul-lt-mul-of-pos-right, div-lt-iff-lt-mul, mul-sub, le-div-iff-mul-le, eq-of-mul-eq-mul-right, add-mul-div-right, add-mul-mod-self-right}
+use native.Mathlib.Omega.{arith}
+use lib.Dec.{T, lit<}
+use lib.IntN.{ℤ, pos, negsuc}
+use lib.Pow.{pow-add, pow-pos, pow-mono, pow-lt, shr-le}
+use lib.Ieee.{Float, nan, inf, fin, Format, binary32, binary64, prec, emax, low, up, down, size, nearest, units, round, add, sub, sum, neg, fits}
+use lib.Ieee.Back.{round-whole}
+use lib.Ieee.Digits.{size-lt, size-le}
+use lib.Ieee.Exact.{HasValue, units-val}
+use lib.Ieee.Fits.{round-is, down-pos, nearest-le}
+use lib.Ieee.Nearest.{nearest-ge, closest, closest-same}
+use lib.Ieee.Scale.{round-same}
+use borrow.Author.Tests.{le-ltb, lt-ltb}
+use Rattle.floats.specs.Float.{roundEven}
+use Rattle.floats.proofs.Near.{closest-exact}
+use Rattle.floats.proofs.Exact.{round-self, down-low}
+
+-- 2 ^ (prec - 1) twice, and room above it
+half-top : (f : Format) → 2 ^ prec f ≡ 2 * 2 ^ (prec f - 1)
+half-top binary32 = refl
+half-top binary64 = refl
+
+reach : (f : Format) → prec f < suc (emax f)
+reach binary32 = lit< tt
+reach binary64 = lit< tt
+
+size-is : (n j : ℕ) → 2 ^ j ≤ n → n < 2 ^ suc j → size n ≡ suc j
+size-is n j h k =
+    le-antisymm (size-le n (suc j) k)
+    (lt-of-not-le (λ (g : size n ≤ j). not-le-of-lt (lt-of-lt-of-le (size-lt n) (pow-mono g)) h))
+
+-- a number of units, as a whole number
+pub unscale : (x : Float) (s : Bool) (q u : ℕ) → 0 < u → HasValue x s (q * u) u → HasValue x s q 1
+unscale nan s q u U v = v
+unscale (inf t) s q u U v = v
+unscale (fin t m e) s q u U v =
+    (v .0, mul-one (m * up e) ∙ eq-of-mul-eq-mul-right u U (m * up e) (q * down e) (v .1 ∙ mul-right-comm q u (down e)))
+
+-- ---- 2 ^ (prec - 1) ≤ n / d < 2 ^ prec
+module _ (f : Format) (n d : ℕ) (D : 0 < d) (lo : 2 ^ (prec f - 1) * d ≤ n) (hi : n < 2 ^ prec f * d) where
+  digits : size (n * 2 ^ low f / d) - prec f ≡ low f
+  digits =
+      ap (λ z. z - prec f)
+      (size-is (n * 2 ^ low f / d) (prec f - 1 + low f)
+      (le-div-iff-mul-le D .1 (le-trans (le-of-eq low-end) (mul-le-mul-right (2 ^ low f) lo)))
+      (div-lt-iff-lt-mul D .1 (lt-of-lt-of-le (mul-lt-mul-of-pos-right hi (pow-pos (low f))) (le-of-eq high-end))))
+      ∙ count f
+    where
+      low-end : 2 ^ (prec f - 1 + low f) * d ≡ 2 ^ (prec f - 1) * d * 2 ^ low f
+      low-end = ap (λ z. z * d) (pow-add 2 (prec f - 1) (low f)) ∙ mul-right-comm (2 ^ (prec f - 1)) (2 ^ low f) d
+
+      high-end : 2 ^ prec f * d * 2 ^ low f ≡ 2 ^ suc (prec f - 1 + low f) * d
+      high-end = mul-right-comm (2 ^ prec f) d (2 ^ low f) ∙ ap (λ z. z * d) (sym (pow-add 2 (prec f) (low f)) ∙ ap (λ z. 2 ^ z) (next f))
+        where
+          next : (f : Format) → prec f + low f ≡ suc (prec f - 1 + low f)
+          next binary32 = refl
+          next binary64 = refl
+
+      count : (f : Format) → suc (prec f - 1 + low f) - prec f ≡ low f
+      count binary32 = refl
+      count binary64 = refl
+
+  whole-le : closest n d ≤ 2 ^ prec f
+  whole-le = le-trans (nearest-le (n / d) (compare (n % d * 2) d)) (div-lt-iff-lt-mul D .1 hi)
+
+  pub whole-ge : 2 ^ (prec f - 1) ≤ closest n d
+  whole-ge = le-trans (le-div-iff-mul-le D .1 lo) (nearest-ge (n / d) (compare (n % d * 2) d))
+
+  -- such a fraction rounds to the closest whole number
+  pub whole-value : (s : Bool) → HasValue (round f s n d) s (closest n d) 1
+  whole-value s = subst (λ x. HasValue x s (closest n d) 1) (sym on-grid) (unscale (units f s (closest n d) (low f)) s (closest n d) (2 ^ low f) (pow-pos (low f)) (units-val f s (closest n d) (low f) room))
+    where
+      on-grid : round f s n d ≡ units f s (closest n d) (low f)
+      on-grid =
+          round-is f s n d
+          ∙ ap (λ k. units f s (closest (n * 2 ^ low f) (d * 2 ^ k)) k) digits
+          ∙ ap (λ q. units f s q (low f))
+          (closest-same (n * 2 ^ low f) (d * 2 ^ low f) n d (mul-pos D (pow-pos (low f))) D
+          (mul-right-comm n (2 ^ low f) d ∙ mul-assoc n d (2 ^ low f)))
+
+      room : closest n d * 2 ^ low f < 2 ^ (low f + suc (emax f))
+      room =
+          lt-of-le-of-lt (mul-le-mul-right (2 ^ low f) whole-le)
+          (subst (λ z. 2 ^ prec f * 2 ^ low f < z) (sym (pow-add 2 (low f) (suc (emax f)) ∙ mul-comm (2 ^ low f) (2 ^ suc (emax f))))
+          (mul-lt-mul-of-pos-right (pow-lt (reach f)) (pow-pos (low f))))
+
+-- ---- the closest whole number to n / d + w, for an even w
+pub closest-shift : (n d w : ℕ) → 0 < d → w % 2 ≡ 0 → closest (n + w * d) d ≡ closest n d + w
+closest-shift n d w D h = rw (add-mul-div-right n w D, add-mul-mod-self-right) (shift (n / d) (compare (n % d * 2) d))
+  where
+    shift : (q : ℕ) (o : Ordering) → nearest (q + w) o ≡ nearest q o + w
+    shift q Ordering·lt = refl
+    shift q Ordering·eq = omega arith
+    shift q Ordering·gt = omega arith
+
+-- ---- a whole number less another, a * 2 ^ k
+taken : (a b q w d : ℕ) → a ≡ q * d → b ≡ w * d → (a - b) * 1 ≡ (q - w) * (d * 1)
+taken a b q w d e g = mul-one (a - b) ∙ rw (e, g, mul-one, mul-comm q d, mul-comm w d, mul-comm (q - w) d) (sym (mul-sub d q w))
+
+pub sub-back : (f : Format) (x : Float) (q a k : ℕ) → HasValue x false q 1 → a * 2 ^ k ≤ q
+    → sub f x (fin false a (pos k)) ≡ round f false (q - a * 2 ^ k) 1
+unfolding sub add neg sum
+sub-back f nan q a k v h = absurd v
+sub-back f (inf t) q a k v h = absurd v
+sub-back f (fin true m e) q a k v h = absurd (true≢false (v .0))
+sub-back f (fin false m e) q a k v h =
+    let A = m * up e * 1 in
+    let B = a * 2 ^ k * down e in
+    simp (le-ltb A B (subst (λ (z : ℕ). B ≤ z) (sym (v .1)) (mul-le-mul-right (down e) h)))
+    (round-same f false (A - B) (down e * 1) (q - a * 2 ^ k) 1 (mul-pos (down-pos e) (lit< tt)) (lit< tt)
+    (taken A B q (a * 2 ^ k) (down e) (v .1) refl))
+
+pub sub-past : (f : Format) (x : Float) (q a k : ℕ) → HasValue x false q 1 → q < a * 2 ^ k
+    → sub f x (fin false a (pos k)) ≡ round f true (a * 2 ^ k - q) 1
+unfolding sub add neg sum
+sub-past f nan q a k v h = absurd v
+sub-past f (inf t) q a k v h = absurd v
+sub-past f (fin true m e) q a k v h = absurd (true≢false (v .0))
+sub-past f (fin false m e) q a k v h =
+    let A = m * up e * 1 in
+    let B = a * 2 ^ k * down e in
+    simp (lt-ltb A B (subst (λ (z : ℕ). z < B) (sym (v .1)) (mul-lt-mul-of-pos-right h (down-pos e))))
+    (round-same f true (B - A) (down e * 1) (a * 2 ^ k - q) 1 (mul-pos (down-pos e) (lit< tt)) (lit< tt)
+    (taken B A (a * 2 ^ k) q (down e) refl (v .1)))
+
+-- ---- `roundEven`
+-- a whole number stays as it is
+pub whole-stays : (f : Format) (s : Bool) (m : ℕ) (e : ℤ) (w : ℕ) → T (fits f (fin s m e)) → m * up e ≡ w * down e
+    → fin s m e ≡ roundEven f (fin s m e)
+unfolding roundEven
+whole-stays f s m e w F h =
+    sym
+    (ap (λ q. round f s q 1) (closest-exact (m * up e) (down e) w (down-pos e) h)
+    ∙ round-same f s w 1 (m * up e) (down e) (lit< tt) (down-pos e) (sym (mul-one (m * up e) ∙ h))
+    ∙ round-self f s m e F)
+
+-- it is the closest whole number, with nothing lost
+pub round-even-value : (f : Format) (s : Bool) (m : ℕ) (e : ℤ) → T (fits f (fin s m e))
+    → HasValue (roundEven f (fin s m e)) s (closest (m * up e) (down e)) 1
+unfolding roundEven
+round-even-value f s m (pos k) F =
+    subst (λ x. HasValue x s (closest (m * 2 ^ k) 1) 1) (whole-stays f s m (pos k) (m * 2 ^ k) F (sym (mul-one (m * 2 ^ k))))
+    (refl, ap (λ q. q * 1) (sym (closest-exact (m * 2 ^ k) 1 (m * 2 ^ k) (lit< tt) (sym (mul-one (m * 2 ^ k))))))
+round-even-value f s m (negsuc k) F = round-whole f s (closest (m * 1) (2 ^ suc k)) (le-trans (nearest-le (m * 1 / 2 ^ suc k) (compare (m * 1 % 2 ^ suc k * 2) (2 ^ suc k))) (few m F))
+  where
+    few : (m : ℕ) → T (fits f (fin s m (negsuc k))) → m * 1 / 2 ^ suc k < 2 ^ prec f
+    few zero F = lt-of-le-of-lt (shr-le (0 * 1) (suc k)) (pow-pos (prec f))
+    few (suc m) F = lt-of-le-of-lt (le-trans (shr-le (suc m * 1) (suc k)) (le-of-eq (mul-one (suc m)))) (down-low f s m (negsuc k) F .0)

@@ -1,0 +1,51 @@
+// The sign and the range of an f32.
+ghost use mathlib.Core.Path.{_≡_};
+ghost use mathlib.Core.Bool.{false};
+ghost use lib.Ieee.{binary32, inf, ofBits, toBits};
+ghost use lib.Ieee.Scale.{finite};
+ghost use Rattle.floats.specs.Float.{absOf};
+
+// +infinity. No constant may hold it.
+pub fn infinity() -> f32
+    ensures { λ r. ⌜ r ≡ inf false ⌝ }
+{
+    f32::from_bits(0x7f800000)
+}
+
+// Any pattern's value. Every NaN pattern is the one NaN.
+pub fn from_pattern(n: u32) -> f32
+    ensures { λ r. ⌜ r ≡ ofBits binary32 n ⌝ }
+{
+    if n % 0x80000000 > 0x7f800000 {
+        let top = infinity();
+        return top - top;
+    }
+    f32::from_bits(n)
+}
+
+// A value's pattern, and 0x7fc00000 for a NaN.
+pub fn pattern(x: f32) -> u32
+    ensures { λ r. ⌜ r ≡ toBits binary32 x ⌝ }
+{
+    if x != x {
+        return 0x7fc00000;
+    }
+    f32::to_bits(x)
+}
+
+// The sign bit off.
+pub fn abs(x: f32) -> f32
+    ensures { λ r. ⌜ r ≡ absOf x ⌝ }
+{
+    if x != x {
+        return x;
+    }
+    f32::from_bits(f32::to_bits(x) % 0x80000000)
+}
+
+pub fn is_finite(x: f32) -> bool
+    ensures { λ r. ⌜ r ≡ finite x ⌝ }
+{
+    let top = infinity();
+    if x < top { x > -top } else { false }
+}

@@ -1,0 +1,68 @@
+-- The first place that fails a test: to it, from the places that a search has passed, and back. Assumes nothing.
+use Prim.Native.Nat.{ℕ, zero, suc, _≤_, _<_}
+use mathlib.Core.Path.{_≡_, refl, ap}
+use mathlib.Core.Bool.{Bool, true, false, cond}
+use native.Mathlib.Omega.{arith}
+use borrow.Author.Count.{below-none}
+use Rattle.lists.specs.Index.{firstNot}
+
+-- p passes every place below i. (The kit's `below-none` and `below-more` are its laws in a loop.)
+abbrev pub Passed : (ℕ → Bool) → ℕ → Type 0
+Passed p i = (k : ℕ) → k < i → p k ≡ true
+
+-- the search stopped at i
+pub first-at : (p : ℕ → Bool) (n i : ℕ) → i < n → Passed p i → p i ≡ false → i ≡ firstNot p n
+unfolding firstNot
+first-at p zero i h b e = absurd (omega arith)
+first-at p (suc n) zero h b e = simp e
+first-at p (suc n) (suc i) h b e =
+    rw (b 0 (omega arith)) (ap suc (first-at (λ k. p (suc k)) n i (omega arith) (λ k g. b (suc k) (omega arith)) e))
+
+-- the search came to the end
+pub first-end : (p : ℕ → Bool) (n i : ℕ) → i ≤ n → n ≤ i → Passed p i → i ≡ firstNot p n
+unfolding firstNot
+first-end p zero i h k b = omega arith
+first-end p (suc n) zero h k b = absurd (omega arith)
+first-end p (suc n) (suc i) h k b =
+    rw (b 0 (omega arith)) (ap suc (first-end (λ j. p (suc j)) n i (omega arith) (omega arith) (λ j g. b (suc j) (omega arith))))
+
+-- below the first failure p passes
+pub first-passed : (p : ℕ → Bool) (n : ℕ) → Passed p (firstNot p n)
+unfolding firstNot
+first-passed p zero = below-none (λ k. p k ≡ true)
+first-passed p (suc n) = step p (p 0) (firstNot (λ k. p (suc k)) n) refl (first-passed (λ k. p (suc k)) n)
+  where
+    step : (p : ℕ → Bool) (b : Bool) (m : ℕ) → p 0 ≡ b → Passed (λ k. p (suc k)) m → Passed p (cond b (suc m) 0)
+    step p false m e r k h = absurd (omega arith)
+    step p true m e r zero h = e
+    step p true m e r (suc k) h = r k (omega arith)
+
+-- at it, where it lies below n, p fails
+pub first-fails : (p : ℕ → Bool) (n : ℕ) → firstNot p n < n → p (firstNot p n) ≡ false
+unfolding firstNot
+first-fails p zero h = absurd (omega arith)
+first-fails p (suc n) h = step p (p 0) (firstNot (λ k. p (suc k)) n) n refl (first-fails (λ k. p (suc k)) n) h
+  where
+    step : (p : ℕ → Bool) (b : Bool) (m n : ℕ) → p 0 ≡ b → (m < n → p (suc m) ≡ false) → cond b (suc m) 0 < suc n → p (cond b (suc m) 0) ≡ false
+    step p false m n e r h = e
+    step p true m n e r h = r (omega arith)
+
+-- where none fails, p passes every place
+pub first-clear : (p : ℕ → Bool) (n : ℕ) → n ≤ firstNot p n → Passed p n
+first-clear p n h k l = first-passed p n k (omega arith)
+
+pub first-le : (p : ℕ → Bool) (n : ℕ) → firstNot p n ≤ n
+unfolding firstNot
+first-le p zero = omega arith
+first-le p (suc n) = step (p 0) (first-le (λ k. p (suc k)) n)
+  where
+    step : (b : Bool) {m n : ℕ} → m ≤ n → cond b (suc m) 0 ≤ suc n
+    step true h = omega arith
+    step false h = omega arith
+
+-- tests that agree below n fail at the same place
+pub first-same : (p q : ℕ → Bool) (n : ℕ) → ((k : ℕ) → k < n → p k ≡ q k) → firstNot p n ≡ firstNot q n
+unfolding firstNot
+first-same p q zero h = refl
+first-same p q (suc n) h =
+    rw (h 0 (omega arith), first-same (λ k. p (suc k)) (λ k. q (suc k)) n (λ k l. h (suc k) (omega arith)))

@@ -1,0 +1,4 @@
+pub mod Sum
+pub mod Tab
+pub mod First
+pub mod Placed

@@ -1,0 +1,62 @@
+-- Laws of sums by index. Assumes nothing.
+use Prim.Native.Nat.{ℕ, zero, suc, _+_, _*_, _≤_, _<_}
+use mathlib.Core.Path.{_≡_, refl, ap, ap₂}
+use mathlib.Core.Logic.{⊎-elim}
+use native.Mathlib.Nat.{add-zero, add-suc, add-assoc, eq-or-lt-of-le, le-of-suc-le-suc}
+use native.Mathlib.Numerals.{add-one}
+use native.Mathlib.Omega.{arith}
+use Rattle.lists.specs.Index.{sumTo}
+
+pub sum-none : (f : ℕ → ℕ) → 0 ≡ sumTo f 0
+unfolding sumTo
+sum-none f = refl
+
+-- a turn of a loop that adds
+pub sum-more : (f : ℕ → ℕ) (i a x : ℕ) → a ≡ sumTo f i → x ≡ f i → a + x ≡ sumTo f (i + 1)
+unfolding sumTo
+sum-more f i a x p q = rw (p, q, add-one)
+
+pub sum-same : (f g : ℕ → ℕ) (n : ℕ) → ((i : ℕ) → i < n → f i ≡ g i) → sumTo f n ≡ sumTo g n
+unfolding sumTo
+sum-same f g zero h = refl
+sum-same f g (suc n) h = ap₂ _+_ (sum-same f g n (λ i l. h i (omega arith))) (h n (omega arith))
+
+pub sum-le : (f g : ℕ → ℕ) (n : ℕ) → ((i : ℕ) → i < n → f i ≤ g i) → sumTo f n ≤ sumTo g n
+unfolding sumTo
+sum-le f g zero h = omega arith
+sum-le f g (suc n) h = omega (arith, sum-le f g n (λ i l. h i (omega arith)), h n (omega arith))
+
+-- one term is larger, and none is smaller
+pub sum-lt : (f g : ℕ → ℕ) (n i : ℕ) → i < n → f i < g i → ((j : ℕ) → j < n → f j ≤ g j) → sumTo f n < sumTo g n
+unfolding sumTo
+sum-lt f g zero i l s h = omega arith
+sum-lt f g (suc n) i l s h =
+    ⊎-elim
+    (λ (e : i ≡ n). omega (arith, ap f e, ap g e, sum-le f g n (λ j k. h j (omega arith))))
+    (λ (k : i < n). omega (arith, sum-lt f g n i k s (λ j k. h j (omega arith)), h n (omega arith)))
+    (eq-or-lt-of-le (le-of-suc-le-suc l))
+
+pub sum-add : (f g : ℕ → ℕ) (n : ℕ) → sumTo (λ i. f i + g i) n ≡ sumTo f n + sumTo g n
+unfolding sumTo
+sum-add f g zero = refl
+sum-add f g (suc n) = omega (arith, sum-add f g n)
+
+pub sum-const : (c n : ℕ) → sumTo (λ i. c) n ≡ n * c
+unfolding sumTo
+sum-const c zero = omega arith
+sum-const c (suc n) = omega (arith, sum-const c n)
+
+pub sum-term : (f : ℕ → ℕ) (n i : ℕ) → i < n → f i ≤ sumTo f n
+unfolding sumTo
+sum-term f zero i l = omega arith
+sum-term f (suc n) i l =
+    ⊎-elim
+    (λ (e : i ≡ n). omega (arith, ap f e))
+    (λ (k : i < n). omega (arith, sum-term f n i k))
+    (eq-or-lt-of-le (le-of-suc-le-suc l))
+
+-- the first n terms, and the m after them
+pub sum-join : (f : ℕ → ℕ) (n m : ℕ) → sumTo f (n + m) ≡ sumTo f n + sumTo (λ i. f (n + i)) m
+unfolding sumTo
+sum-join f n zero = rw (add-zero n, add-zero (sumTo f n))
+sum-join f n (suc m) = rw (add-suc, sum-join f n m, add-assoc)
