@@ -1,8 +1,11 @@
 -- What the kit's IEEE 754 (lib.Ieee) lacks of Rust's f32 functions. `finite` is the kit's. Definitions only.
-use mathlib.Core.Bool.{false}
-use Prim.Native.Nat.{_*_}
+use mathlib.Core.Bool.{Bool, false}
+use mathlib.Core.List.{List}
+use Prim.Native.Nat.{ℕ, _*_}
 use lib.Ieee.{Float, nan, inf, fin, Format, binary32, up, down, round, add, sub, mul}
 use lib.Ieee.Nearest.{closest}
+use lib.Ieee.Scale.{finite}
+use lib.ListN.{getD}
 
 -- `mul_add(a, b, c)`: a times b, rounded, plus c, rounded (document 01, "One reading of every step")
 abbrev pub mulAdd : Float → Float → Float → Float
@@ -24,3 +27,7 @@ unfoldable pub roundEven : Format → Float → Float
 roundEven f nan = nan
 roundEven f (inf s) = inf s
 roundEven f (fin s m e) = round f s (closest (m * up e) (down e)) 1
+
+-- the element at place i of a list is finite
+abbrev pub finiteAt : List Float → ℕ → Bool
+finiteAt s i = finite (getD s i nan)
