@@ -12,3 +12,4 @@ pub mod Formats
 pub mod Pattern
 pub mod Whole
 pub mod Digits
+pub mod Line

@@ -202,3 +202,18 @@ pub le-lt-trans : (x y z : Float) → T (le x y) → T (lt y z) → T (lt x z)
 le-lt-trans x y z h k =
     nle→lt z x (lt-numbers y z k .1) (le-numbers x y h .0)
     (not-T (le z x) (λ (l : T (le z x)). T-not (le z y) (lt→nle y z k) (le-trans-f z x y l h)))
+
+-- ---- a failed test of two numbers, as a program has it
+pub not-le : (x y : Float) → T (not (isNan x)) → T (not (isNan y)) → le x y ≡ false → T (le y x)
+not-le x y p q h = lt→le y x (nle→lt x y p q (subst (λ b. T (not b)) (sym h) tt))
+
+pub not-lt : (x y : Float) → T (not (isNan x)) → T (not (isNan y)) → lt x y ≡ false → T (le y x)
+not-lt x y p q h = nlt→le x y p q (subst (λ b. T (not b)) (sym h) tt)
+
+-- and a test that holds, against the other
+pub le-not-lt : (x y : Float) → le x y ≡ true → lt y x ≡ false
+le-not-lt x y h = go (lt y x) refl
+  where
+    go : (b : Bool) → lt y x ≡ b → b ≡ false
+    go false e = refl
+    go true e = absurd (T-not (le x y) (lt→nle y x (subst T (sym e) tt)) (subst T (sym h) tt))

@@ -6,7 +6,7 @@ use mathlib.Core.Bool.{Bool, true, false, not, Bool·beq, cond}
 use lib.IntN.{pos}
 use lib.Dec.{T, ltb}
 use lib.Pow.{pow-pos}
-use lib.Ieee.{Float, nan, inf, fin, Format, binary32, binary64, prec, emax, low, odd, units, round, neg, isNan}
+use lib.Ieee.{Float, nan, inf, fin, Format, binary32, binary64, prec, emax, low, up, down, odd, units, round, neg, mul, lt, isNan}
 use lib.Ieee.Scale.{finite, round-same}
 
 -- x is no NaN, and its sign is s
@@ -87,3 +87,31 @@ zero-over-one binary64 s = refl
 -- 0 / d rounds to the zero of the sign that is asked for
 pub round-zero : (f : Format) (s : Bool) (d : ℕ) → 0 < d → round f s 0 d ≡ fin s 0 (pos 0)
 round-zero f s d D = round-same f s 0 d 0 1 D (pow-pos 0) (simp zero-mul) ∙ zero-over-one f s
+
+-- ---- minus a square is not above zero
+not-above : (z : Float) → T (hasSign true z) → lt (fin false 0 (pos 0)) z ≡ false
+unfolding lt
+not-above nan h = refl
+not-above (inf true) h = refl
+not-above (inf false) h = absurd h
+not-above (fin true m e) h = refl
+not-above (fin false m e) h = absurd h
+
+neg-has : (x : Float) → T (hasSign false x) → T (hasSign true (neg x))
+unfolding neg
+neg-has nan h = h
+neg-has (inf true) h = h
+neg-has (inf false) h = tt
+neg-has (fin true m e) h = h
+neg-has (fin false m e) h = tt
+
+below-round : (f : Format) (a d : ℕ) → lt (fin false 0 (pos 0)) (neg (round f false a d)) ≡ false
+below-round f a d = not-above (neg (round f false a d)) (neg-has (round f false a d) (round-has f false a d))
+
+pub minus-square : (f : Format) (x : Float) → lt (fin false 0 (pos 0)) (neg (mul f x x)) ≡ false
+unfolding mul neg lt
+minus-square f nan = refl
+minus-square f (inf true) = refl
+minus-square f (inf false) = refl
+minus-square f (fin true m e) = below-round f (m * up e * (m * up e)) (down e * down e)
+minus-square f (fin false m e) = below-round f (m * up e * (m * up e)) (down e * down e)

@@ -1,0 +1,3 @@
+// The C boundary: every public call over plain pointers and lengths, its answer in one word. A slice is a pointer and a length.
+mod operators;
+mod pack;

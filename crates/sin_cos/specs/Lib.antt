@@ -1,0 +1,2 @@
+-- what sin_cos's contracts cite
+pub mod SinCos

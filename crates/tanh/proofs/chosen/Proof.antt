@@ -1,0 +1,34 @@
+use borrow.Author.Needs.{needs}
+use Rattle.tanh.specs.Tanh.{sizeOf}
+use Rattle.tanh.proofs.chosen.Statement.{statement}
+use Rattle.tanh.proofs.chosen.Tie as tie
+
+small-requires : tie.Need-small-requires
+small-requires c κs = search needs
+
+exp-requires : tie.Need-exp-requires
+exp-requires c κs = search needs
+
+medium-requires : tie.Need-medium-requires
+medium-requires c κs = search needs
+
+returns : tie.Need-returns
+unfolding sizeOf
+returns c = simp (c .if1 .taken)
+
+returns-2 : tie.Need-returns-2
+unfolding sizeOf
+returns-2 c = simp (c .before .if1 .left, c .if2 .taken) (cc)
+
+returns-3 : tie.Need-returns-3
+unfolding sizeOf
+returns-3 c = simp (c .before .before .if1 .left, c .before .if2 .left, c .if3 .taken)
+
+returns-4 : tie.Need-returns-4
+unfolding sizeOf
+returns-4 c = simp (c .before .before .if1 .left, c .before .if2 .left, c .if3 .left) (cc)
+
+pub chosen-spec : {M : Type 1} → statement M
+chosen-spec =
+    tie.close
+    (tie.spec small-requires exp-requires medium-requires returns returns-2 returns-3 returns-4)

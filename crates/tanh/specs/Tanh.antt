@@ -1,0 +1,25 @@
+-- tanh.rs over one lane, each step rounded once, in the Rust's order. Definitions only.
+use mathlib.Core.Bool.{cond}
+use lib.Ieee.{Float, binary32, add, sub, mul, div, neg, le}
+use Rattle.consts.specs.Consts.{zeroF, oneF, twoF, tanhCutoff, tanhTiny, tanhSmall, tanhP1, tanhP3, tanhP5, tanhP7, tanhP9}
+use Rattle.floats.specs.Float.{mulAdd, absOf}
+use Rattle.exp.specs.Exp.{expOf}
+
+-- for a small x: an odd polynomial in x, by its square and its size
+abbrev pub smallOf : Float → Float → Float
+smallOf square size = mul binary32 (mulAdd (mulAdd (mulAdd (mulAdd tanhP9 square tanhP7) square tanhP5) square tanhP3) square tanhP1) size
+
+-- for a medium x: (e - 1) / (e + 1), where e is exp of twice the size
+abbrev pub mediumOf : Float → Float
+mediumOf e = div binary32 (sub binary32 e oneF) (add binary32 e oneF)
+
+-- the size of the result, chosen by |x|
+unfoldable pub sizeOf : Float → Float → Float
+sizeOf x size =
+    cond (le size tanhTiny) size
+    (cond (le size tanhSmall) (smallOf (mul binary32 x x) size)
+    (cond (le tanhCutoff size) oneF (mediumOf (expOf (mul binary32 size twoF)))))
+
+-- `Tanh`: the sign is flipped where x is at most zero, so +0 gives -0
+unfoldable pub tanhOf : Float → Float
+tanhOf x = cond (le x zeroF) (neg (sizeOf x (absOf x))) (sizeOf x (absOf x))

@@ -1,0 +1,54 @@
+// tanh.rs of rten-vecmath, one element at a time. For the crates above.
+ghost use mathlib.Core.Path.{_≡_};
+ghost use Rattle.tanh.specs.Tanh.{smallOf, mediumOf, sizeOf, tanhOf};
+use consts::TANH_CUTOFF;
+use consts::TANH_P1;
+use consts::TANH_P3;
+use consts::TANH_P5;
+use consts::TANH_P7;
+use consts::TANH_P9;
+use consts::TANH_SMALL;
+use consts::TANH_TINY;
+use exp::exp;
+use floats::bits::abs;
+
+fn small(square: f32, size: f32) -> f32
+    ensures { λ r. ⌜ r ≡ smallOf square size ⌝ }
+{
+    let y = TANH_P9 * square + TANH_P7;
+    let y = y * square + TANH_P5;
+    let y = y * square + TANH_P3;
+    let y = y * square + TANH_P1;
+    y * size
+}
+
+fn medium(e: f32) -> f32
+    ensures { λ r. ⌜ r ≡ mediumOf e ⌝ }
+{
+    (e - 1.0) / (e + 1.0)
+}
+
+// Both forms are worked out before the choice, so that a loop over it has no branch.
+fn chosen(x: f32, size: f32) -> f32
+    ensures { λ r. ⌜ r ≡ sizeOf x size ⌝ }
+{
+    let low = small(x * x, size);
+    let high = medium(exp(size * 2.0));
+    if size <= TANH_TINY {
+        return size;
+    }
+    if size <= TANH_SMALL {
+        return low;
+    }
+    if size >= TANH_CUTOFF {
+        return 1.0;
+    }
+    high
+}
+
+pub fn tanh(x: f32) -> f32
+    ensures { λ r. ⌜ r ≡ tanhOf x ⌝ }
+{
+    let y = chosen(x, abs(x));
+    if x <= 0.0 { -y } else { y }
+}
