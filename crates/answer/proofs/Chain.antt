@@ -65,6 +65,11 @@ unfolding judged
 opened true r ts e = absurd (let z : _≡_ {A = ℕ} 0 1 = cc in omega arith)
 opened false r ts e = (refl, e)
 
+-- an answer that is done is `Done`
+pub done-is : (a : Answer) → isDone a ≡ true → Done ≡ a
+done-is Done h = refl
+done-is (Refused r) h = absurd (false≢true h)
+
 -- ---- the two promises of a call over lent values: what it tells, and what it leaves
 module _ {A : Type 0} {ts : List Test} (new old : A) where
   -- a refusal, with nothing written

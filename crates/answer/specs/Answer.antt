@@ -58,6 +58,10 @@ abbrev pub whenDone : {A : Type 0} → Answer → A → A → A
 whenDone Done new old = new
 whenDone (Refused r) new old = old
 
+-- what a call that answers values tells: number and place, and its values, other ones where it is refused
+abbrev pub toldWith : {A : Type 0} → Answer → A → A → (ℕ × ℕ) × A
+toldWith a done refused = (toldOf a, whenDone a done refused)
+
 -- a test, and the refusal that is given where it holds
 abbrev pub Test : Type 0
 Test = Bool × Refusal

@@ -158,6 +158,10 @@ sinB4 = f32 0x39ff_b307
 abbrev pub largeThreshold : Float
 largeThreshold = f32 0x473b_8000
 
+-- ---- softmax.rs: `f32::MIN`, the least finite f32
+abbrev pub f32Min : Float
+f32Min = f32 0xff7f_ffff
+
 -- -126.5 and 0.01, of which the cutoff is made
 abbrev pub cutoffFactor : Float
 cutoffFactor = f32 0xc2fd_0000
@@ -212,6 +216,7 @@ decimals =
     ∷ (false, 33519912511, 12, sinB2)
     ∷ (false, 48770775902, 14, sinB4)
     ∷ (false, 48000, 0, largeThreshold)
+    ∷ (true, 340282346638528859811704183484516925440, 0, f32Min)
     ∷ (true, 1265, 1, cutoffFactor)
     ∷ (false, 1, 2, cutoffTerm)
     ∷ (false, 0, 0, zeroF)

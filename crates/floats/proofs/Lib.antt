@@ -8,8 +8,14 @@ pub mod Near
 pub mod Error
 pub mod Magnitude
 pub mod NoNan
+pub mod Values
+pub mod NotNegative
+pub mod Between
+pub mod FromOne
+pub mod Largest
 pub mod Formats
 pub mod Pattern
 pub mod Whole
 pub mod Digits
 pub mod Line
+pub mod Each

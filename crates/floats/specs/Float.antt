@@ -5,7 +5,8 @@ use Prim.Native.Nat.{ℕ, _*_}
 use lib.Ieee.{Float, nan, inf, fin, Format, binary32, up, down, round, add, sub, mul}
 use lib.Ieee.Nearest.{closest}
 use lib.Ieee.Scale.{finite}
-use lib.ListN.{getD}
+use lib.ListN.{length, getD}
+use Rattle.lists.specs.Index.{firstNot}
 
 -- `mul_add(a, b, c)`: a times b, rounded, plus c, rounded (document 01, "One reading of every step")
 abbrev pub mulAdd : Float → Float → Float → Float
@@ -31,3 +32,7 @@ roundEven f (fin s m e) = round f s (closest (m * up e) (down e)) 1
 -- the element at place i of a list is finite
 abbrev pub finiteAt : List Float → ℕ → Bool
 finiteAt s i = finite (getD s i nan)
+
+-- the first place that is not finite, or the length
+abbrev pub firstNotFinite : List Float → ℕ
+firstNotFinite s = firstNot (finiteAt s) (length s)

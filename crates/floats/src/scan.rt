@@ -1,13 +1,11 @@
 // The first element of a slice that is no finite number.
 ghost use mathlib.Core.Path.{_≡_};
-ghost use lib.ListN.{length};
-ghost use Rattle.lists.specs.Index.{firstNot};
-ghost use Rattle.floats.specs.Float.{finiteAt};
+ghost use Rattle.floats.specs.Float.{firstNotFinite};
 use crate::bits::is_finite;
 
 // Its place, or the length where every element is finite.
 pub fn first_not_finite(src: &[f32]) -> usize
-    ensures { λ r. ⌜ r ≡ firstNot (finiteAt (now (src .entry))) (length (now (src .entry))) ⌝ }
+    ensures { λ r. ⌜ r ≡ firstNotFinite (now (src .entry)) ⌝ }
 {
     let mut i = 0;
     while i < src.len() {

@@ -63,3 +63,13 @@ module _ {A : Type 0} {z : A} where
           | no m ↦ p .high i (omega arith) ∙ sym (q .high i (omega arith))
         ]
       ])
+
+-- ---- a list that is filled in place, by the length that the loop asks of it
+module _ {A : Type 0} {z : A} (a b : List A) (i : ℕ) {g : ℕ → A} (p : Filled z a b i g) where
+  -- a store of the next place
+  pub filled-more : (v : A) → i < length b → v ≡ g i → Filled z a (set b i v) (i + 1) g
+  filled-more v h e = placed-more a b 0 i g v p (omega arith) (omega (arith, p .long)) e
+
+  -- the loop has come to the end
+  pub filled-end : length b ≤ i → b ≡ tab g (length a)
+  filled-end h = filled-all a b (length a) i g p refl (omega (arith, p .long))

@@ -1,0 +1,1 @@
+// Facts about the definitions of Exp and ReducedRangeExp. No code.

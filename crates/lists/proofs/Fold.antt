@@ -1,0 +1,25 @@
+-- An ordered fold, `foldl`, in a loop: what is left of the fold from the value held at place i is the whole fold. Assumes nothing.
+use Prim.Native.Nat.{ℕ, suc, _+_, _≤_, _<_, suc-le-suc}
+use native.Mathlib.Nat.{zero-lt-suc}
+use mathlib.Core.Path.{_≡_}
+use mathlib.Core.List.{List, [], _∷_, foldl}
+use native.Mathlib.Numerals.{add-one}
+use lib.ListN.{length, getD, drop, drop-of-length-le}
+use lib.Seq.{drop-cons}
+
+module _ {A B : Type 0} (f : B → A → B) where
+  -- a turn of the loop
+  pub fold-more : (s : List A) (z : A) (i : ℕ) (held next : B) → i < length s → next ≡ f held (getD s i z)
+      → foldl f next (drop (i + 1) s) ≡ foldl f held (drop i s)
+  fold-more s z i held next h e = rw (drop-cons s i z h, add-one, e)
+
+  -- the loop has come to the end
+  pub fold-end : (s : List A) (i : ℕ) (held : B) → length s ≤ i → held ≡ foldl f held (drop i s)
+  fold-end s i held h = rw (drop-of-length-le s h)
+
+  -- what holds of the start and is kept by every element that has Q holds of the whole fold
+  pub fold-keeps : (P : B → Type 0) (Q : A → Type 0) → ((b : B) (x : A) → P b → Q x → P (f b x)) → (z : A) (s : List A)
+      → ((i : ℕ) → i < length s → Q (getD s i z)) → (b : B) → P b → P (foldl f b s)
+  fold-keeps P Q k z [] q b p = p
+  fold-keeps P Q k z (x ∷ s) q b p =
+      fold-keeps P Q k z s (λ i h. q (suc i) (suc-le-suc h)) (f b x) (k b x p (q 0 (zero-lt-suc (length s))))

@@ -1,0 +1,7 @@
+pub mod Feed
+pub mod NoNan
+pub mod Pieces
+pub mod Count
+pub mod Continued
+pub mod Determined
+pub mod Place

@@ -1,0 +1,63 @@
+-- Where the joined feeding isn't refused no piece is, and feeding the pieces in order gives the same meter. Assumes nothing.
+--
+--     two-pieces : (m n : Meter) (s t : List Float) → feedOf m (s ++ t) ≡ Next n → (k : Meter) × (feedOf m s ≡ Next k) × (feedOf k t ≡ Next n)
+--     all-pieces : (m n : Meter) (pieces : List (List Float)) → feedOf m (flatten pieces) ≡ Next n → feedAll m pieces ≡ Next n
+use Prim.Native.Nat.{_+_}
+use mathlib.Core.Path.{_≡_, sym, _∙_, ap}
+use mathlib.Core.List.{List, [], _∷_, _++_, flatten}
+use native.Mathlib.Nat.{add-assoc, add-zero}
+use native.Mathlib.Omega.{arith}
+use lib.Ieee.{Float, nan}
+use lib.Ieee.Scale.{finite}
+use lib.ListN.{length, length-append, List·getD-append}
+use lib.Seq.{getD-append-add}
+use Rattle.min_max.proofs.Fold.{extreme-append, extreme-none}
+use Rattle.sum.proofs.Fold.{sum-append, sum-none}
+use Rattle.meter.specs.Meter.{nextOf, feedOf, feedAll}
+use Rattle.meter.specs.declared.Meter.{Meter}
+use Rattle.meter.specs.declared.Fed.the-variants.{Next}
+use Rattle.meter.proofs.Feed.{Accepted, accepts, accepted}
+use Rattle.meter.proofs.NoNan.{next-sound}
+
+-- the next meter's next one is the joined feeding's
+next-append : (m : Meter) (s t : List Float) → nextOf m (s ++ t) ≡ nextOf (nextOf m s) t
+next-append m s t = simp (length-append, add-assoc, sum-append, extreme-append)
+
+next-none : (m : Meter) → nextOf m [] ≡ m
+next-none m = simp (add-zero, sum-none, extreme-none)
+
+module _ (m : Meter) (s t : List Float) (a : Accepted m (s ++ t)) where
+  first-accepted : Accepted m s
+  first-accepted =
+      let l = length-append s t in
+      record {
+        few = omega (arith, a .few);
+        room = omega (arith, a .room);
+        sound = a .sound;
+        each-finite = λ i h. ap finite (sym (List·getD-append s t nan i h)) ∙ a .each-finite i (omega arith);
+      }
+
+  second-accepted : Accepted (nextOf m s) t
+  second-accepted =
+      let l = length-append s t in
+      record {
+        few = omega (arith, a .few);
+        room = omega (arith, a .room);
+        sound = next-sound m s first-accepted;
+        each-finite = λ i h. ap finite (sym (getD-append-add s t i nan)) ∙ a .each-finite (length s + i) (omega arith);
+      }
+
+pub two-pieces : (m n : Meter) (s t : List Float) → feedOf m (s ++ t) ≡ Next n → (k : Meter) × (feedOf m s ≡ Next k) × (feedOf k t ≡ Next n)
+two-pieces m n s t e =
+    let a = accepted m (s ++ t) n e in (
+      nextOf m s,
+      sym (accepts m s (first-accepted m s t (a .0))),
+      sym (accepts (nextOf m s) t (second-accepted m s t (a .0))) ∙ ap Next (sym (a .1 ∙ next-append m s t)),
+    )
+
+pub all-pieces : (m n : Meter) (pieces : List (List Float)) → feedOf m (flatten pieces) ≡ Next n → feedAll m pieces ≡ Next n
+unfolding flatten feedAll
+all-pieces m n [] e = ap Next (sym (accepted m [] n e .1 ∙ next-none m))
+all-pieces m n (s ∷ pieces) e =
+    let p = two-pieces m n s (flatten pieces) e in
+    rw (p .1) (all-pieces (p .0) n pieces (p .2))

@@ -1,0 +1,4 @@
+pub mod Fold
+pub mod Determined
+pub mod Empty
+pub mod Place

@@ -1,0 +1,58 @@
+use Prim.Native.Nat.{_-_, _≤_}
+use mathlib.Core.Path.{_≡_, refl, _∙_}
+use mathlib.Core.Logic.{⊎-elim, inl, inr}
+use lib.ListN.{length, drop}
+use Rattle.min_max.specs.MinMax.{largestFrom}
+use Rattle.min_max.proofs.Fold.{extreme-more, extreme-end}
+use borrow.Author.Needs.{needs}
+use Rattle.min_max.proofs.largest_from.Statement.{statement}
+use Rattle.min_max.proofs.largest_from.Tie as tie
+
+abbrev Inv-loop : tie.InvT-loop
+Inv-loop held src largest₀ i₀ largest i = (i ≤ length src) × (largestFrom largest (drop i src) ≡ largestFrom largest₀ src)
+
+abbrev μ-loop : tie.MeasureT-loop
+μ-loop held src largest₀ i₀ largest i = length src - i
+
+loop-holds : tie.Need-loop-holds Inv-loop μ-loop
+loop-holds c = (search needs, refl)
+
+mul-x : tie.Need-mul-x Inv-loop μ-loop
+mul-x c = search needs
+
+shared-slice-read-x : tie.Need-shared-slice-read-x Inv-loop μ-loop
+shared-slice-read-x c = search needs
+
+add-i : tie.Need-add-i Inv-loop μ-loop
+add-i c = search needs
+
+loop-less : tie.Need-loop-less Inv-loop μ-loop
+loop-less c = search needs
+
+loop-again : tie.Need-loop-again Inv-loop μ-loop
+loop-again c =
+    let l = c .before .before .before in (
+      search needs,
+      extreme-more _ (l .before .args .src .now) (l .loop .i) (l .loop .largest) (c .if1 .largest) (c .before .before .loop-test .taken)
+          (⊎-elim (λ w. inl (w .0 .taken, w .1)) (λ w. inr (w .0 .left, w .1)) (c .if1 .came))
+          ∙ l .loop .inv .1,
+    )
+
+returns : tie.Need-returns Inv-loop μ-loop
+returns c =
+    let l = c .before in
+    extreme-end _ (l .before .args .src .now) (l .loop .i) (l .loop .largest) (c .loop-test .left) ∙ l .loop .inv .1
+
+pub largest-from-spec : {M : Type 1} → statement M
+largest-from-spec =
+    tie.close
+    (tie.spec
+    Inv-loop
+    μ-loop
+    loop-holds
+    mul-x
+    shared-slice-read-x
+    add-i
+    loop-less
+    loop-again
+    returns)

@@ -1,0 +1,1 @@
+// No operator gives a NaN in its domain: the claims are in specs/ and proofs/. No code.

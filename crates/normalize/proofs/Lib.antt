@@ -1,0 +1,6 @@
+pub mod Three
+pub mod Passing
+pub mod NoNan
+pub mod Cases
+pub mod Determined
+pub mod Place

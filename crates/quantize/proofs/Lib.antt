@@ -1,0 +1,5 @@
+pub mod Moved
+pub mod Nearest
+pub mod Cases
+pub mod Determined
+pub mod Place

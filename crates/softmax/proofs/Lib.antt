@@ -1,0 +1,6 @@
+pub mod Domain
+pub mod Least
+pub mod Maximum
+pub mod Result
+pub mod Determined
+pub mod Place

@@ -1,0 +1,6 @@
+pub mod Least
+pub mod Sum
+pub mod Reciprocal
+pub mod Facts
+pub mod Called
+pub mod Flush

@@ -1,0 +1,1 @@
+// The theorems about the softmax definition stand in proofs/.

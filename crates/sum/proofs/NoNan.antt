@@ -1,0 +1,83 @@
+-- No sum on its domain holds a NaN. Assumes nothing.
+--
+--     sum-no-nan : (op : SumOp) (s : List Float) → Done ≡ addUpAnswer op s → T (not (isNan (sumFrom op zeroF s)))
+use mathlib.Core.Path.{_≡_, sym, subst}
+use mathlib.Core.Bool.{not}
+use mathlib.Core.List.{List}
+use mathlib.Core.Logic.{inl, inr}
+use lib.Dec.{T}
+use lib.Ieee.{Float, nan, binary32, ofBits, sub, mul, le, isNan}
+use lib.Ieee.Scale.{finite}
+use lib.ListN.{length}
+use borrow.Author.Tests.{ltb-false, not-false}
+use Rattle.lists.proofs.First.{Passed, first-clear}
+use Rattle.floats.specs.Float.{absOf, finiteAt}
+use Rattle.floats.proofs.Values.{fin0}
+use Rattle.floats.proofs.Sign.{finite-number}
+use Rattle.floats.proofs.Order.{le-numbers}
+use Rattle.floats.proofs.NoNan.{add-number, sub-number}
+use Rattle.answer.specs.declared.Answer.the-variants.{Done}
+use Rattle.answer.proofs.Chain.{opened}
+use Rattle.consts.specs.Consts.{zeroF}
+use Rattle.exp.specs.Exp.{expOf}
+use Rattle.exp_facts.proofs.Facts.{exp-above}
+use Rattle.lists.proofs.Fold.{fold-keeps}
+use Rattle.floats.proofs.NotNegative.{add-le, square-le, abs-le}
+use Rattle.sum.specs.Sum.{stepOf, sumFrom, offsetOk, addUpAnswer}
+use Rattle.sum.specs.declared.SumOp.{SumOp}
+use Rattle.sum.specs.declared.SumOp.the-variants.{Sum, SumSquare, SumAbs, SumSquareSub, SumExpSub}
+
+-- what the held sum stays: a number, and but for `Sum` one that is not below zero
+abbrev pub Kept : SumOp → Float → Type 0
+Kept Sum b = T (not (isNan b))
+Kept SumSquare b = T (le fin0 b)
+Kept SumAbs b = T (le fin0 b)
+Kept (SumSquareSub offset) b = T (le fin0 b)
+Kept (SumExpSub offset) b = T (le fin0 b)
+
+kept-number : (op : SumOp) (b : Float) → Kept op b → T (not (isNan b))
+kept-number Sum b k = k
+kept-number SumSquare b k = le-numbers fin0 b k .1
+kept-number SumAbs b k = le-numbers fin0 b k .1
+kept-number (SumSquareSub offset) b k = le-numbers fin0 b k .1
+kept-number (SumExpSub offset) b k = le-numbers fin0 b k .1
+
+-- the difference of two finite values
+apart : (x offset : Float) → T (finite x) → T (finite offset) → T (not (isNan (sub binary32 x offset)))
+apart x offset f o = sub-number binary32 x offset (finite-number x f) (finite-number offset o) (inl f)
+
+step-keeps : (op : SumOp) → T (offsetOk op) → (b x : Float) → Kept op b → T (finite x) → Kept op (stepOf op b x)
+unfolding ofBits
+step-keeps Sum o b x k f = add-number binary32 b x k (finite-number x f) (inr f)
+step-keeps SumSquare o b x k f = add-le binary32 (mul binary32 x x) b (square-le binary32 x (finite-number x f)) k
+step-keeps SumAbs o b x k f = add-le binary32 b (absOf x) k (abs-le x (finite-number x f))
+step-keeps (SumSquareSub offset) o b x k f =
+    let d = sub binary32 x offset in
+    add-le binary32 (mul binary32 d d) b (square-le binary32 d (apart x offset f o)) k
+step-keeps (SumExpSub offset) o b x k f =
+    let d = sub binary32 x offset in
+    add-le binary32 b (expOf d) k (exp-above d (apart x offset f o))
+
+-- from a held sum on
+pub sum-keeps : (op : SumOp) → T (offsetOk op) → (s : List Float) → Passed (finiteAt s) (length s) → (held : Float) → Kept op held
+    → Kept op (sumFrom op held s)
+unfolding sumFrom
+sum-keeps op o s p held k =
+    fold-keeps (stepOf op) (Kept op) (λ x. T (finite x)) (step-keeps op o) nan s (λ i h. subst T (sym (p i h)) tt) held k
+
+start-kept : (op : SumOp) → Kept op zeroF
+unfolding ofBits isNan le
+start-kept Sum = tt
+start-kept SumSquare = tt
+start-kept SumAbs = tt
+start-kept (SumSquareSub offset) = tt
+start-kept (SumExpSub offset) = tt
+
+pub sum-no-nan : (op : SumOp) (s : List Float) → Done ≡ addUpAnswer op s → T (not (isNan (sumFrom op zeroF s)))
+unfolding addUpAnswer
+sum-no-nan op s d =
+    let a = opened _ _ _ d in
+    let b = opened _ _ _ (a .1) in
+    let c = opened _ _ _ (b .1) in
+    kept-number op (sumFrom op zeroF s)
+    (sum-keeps op (subst T (sym (not-false (offsetOk op) (b .0))) tt) s (first-clear _ _ (ltb-false _ _ (c .0))) zeroF (start-kept op))

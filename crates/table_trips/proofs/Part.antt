@@ -1,0 +1,78 @@
+-- The tests of a block look at its 512 bytes only: bytes that agree there are judged alike. Assumes nothing.
+use Prim.Native.Nat.{ℕ, suc, _+_, _-_, _*_, _≤_, _<_}
+use mathlib.Core.Path.{_≡_, refl, sym, ap, _∙_}
+use mathlib.Core.List.{List}
+use native.Mathlib.Nat.{mul-le-mul-right, suc-mul, zero-add}
+use native.Mathlib.Omega.{arith}
+use lib.ListN.{length, getD, take, drop, length-take, length-drop}
+use lib.Seq.{getD-take, getD-drop}
+use lib.Dec.{leb, eqb}
+use Rattle.lists.proofs.First.{first-same}
+use Rattle.table.specs.Limits.{form1}
+use Rattle.table.specs.Block.{held}
+use Rattle.table.specs.Write.{rowOk, badRow}
+use Rattle.table.specs.Read.{bytesFrom, wordAt, gainIn, checksOk, headOk, blank, rowTests, blockTests}
+use Rattle.table.proofs.Sizes.{held-small}
+use Rattle.table.proofs.Bytes.{checkA-same, checkB-same}
+use Rattle.table.proofs.Totals.{row-same}
+
+-- the 512 bytes of block k
+abbrev pub blockOf : List ℕ → ℕ → List ℕ
+blockOf s k = take 512 (drop (512 * k) s)
+
+pub block-byte : (s : List ℕ) (k i : ℕ) → i < 512 → bytesFrom (blockOf s k) 0 i ≡ bytesFrom s (512 * k) i
+block-byte s k i l =
+    ap (λ (x : ℕ). getD (blockOf s k) x 0) (zero-add i) ∙ getD-take 512 (drop (512 * k) s) i 0 l ∙ getD-drop (512 * k) s i 0
+
+pub block-long : (s : List ℕ) (k : ℕ) → 512 * k + 512 ≤ length s → length (blockOf s k) ≡ 512
+block-long s k h = simp (length-take, length-drop) (omega arith)
+
+module _ (f g : ℕ → ℕ) (same : (i : ℕ) → i < 512 → f i ≡ g i) where
+  pub word-same : (i : ℕ) → i < 511 → wordAt f i ≡ wordAt g i
+  word-same i l = rw (same i (omega arith), same (i + 1) (omega arith)) refl
+
+  checks-same : checksOk f ≡ checksOk g
+  unfolding checksOk
+  checks-same =
+      rw (
+        word-same 508 (omega arith),
+        word-same 510 (omega arith),
+        checkA-same f g (λ i l. same i (omega arith)),
+        checkB-same f g (λ i l. same i (omega arith)),
+      )
+      refl
+
+  head-same : (k : ℕ) → headOk form1 f k ≡ headOk form1 g k
+  unfolding headOk
+  head-same k = rw (word-same 0 (omega arith), word-same 2 (omega arith), word-same 4 (omega arith), word-same 6 (omega arith)) refl
+
+  gain-same : (i : ℕ) → i < 250 → gainIn f i ≡ gainIn g i
+  unfolding gainIn
+  gain-same i l = word-same (8 + 2 * i) (omega arith)
+
+  bad-same : (parts B n : ℕ) → n * B ≤ 250 → badRow parts (gainIn f) B n ≡ badRow parts (gainIn g) B n
+  unfolding badRow
+  bad-same parts B n h =
+      first-same (rowOk parts (gainIn f) B) (rowOk parts (gainIn g) B) n
+      (λ r l.
+      let m : suc r * B ≤ n * B = mul-le-mul-right B l in
+      row-same parts (gainIn f) (gainIn g) B r r (λ j k. sym (gain-same (r * B + j) (omega (arith, suc-mul r B)))))
+
+  blank-same : (from : ℕ) → blank f from ≡ blank g from
+  unfolding blank
+  blank-same from =
+      ap (leb (508 - from))
+      (first-same (λ i. eqb (f (from + i)) 0) (λ i. eqb (g (from + i)) 0) (508 - from) (λ i l. ap (λ (x : ℕ). eqb x 0) (same (from + i) (omega arith))))
+
+  pub tests-same : (B N k : ℕ) → blockTests form1 B N f k ≡ blockTests form1 B N g k
+  unfolding blockTests rowTests
+  tests-same B N k =
+      rw (
+        checks-same,
+        head-same k,
+        word-same 4 (omega arith),
+        word-same 6 (omega arith),
+        bad-same (form1 .parts) B (held B N k) (held-small B N k),
+        blank-same (8 + 2 * (held B N k * B)),
+      )
+      refl

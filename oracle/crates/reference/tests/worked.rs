@@ -1,0 +1,68 @@
+//! Document 01, "Sums by hand".
+
+use reference::answer::DONE;
+use reference::quantize::quantize;
+use reference::split::split;
+use reference::table::{read, read_block, write};
+use reference::unary::{Op, apply, eval};
+
+const MASK: f32 = f32::NEG_INFINITY;
+
+fn gains(levels: &[f32]) -> Vec<u16> {
+    let mut out = vec![0; levels.len()];
+    assert_eq!(split(levels, &mut out), DONE);
+    out
+}
+
+fn refusal(levels: &[f32]) -> (u8, usize) {
+    let answer = split(levels, &mut vec![0; levels.len()]);
+    (answer.number, answer.place)
+}
+
+#[test]
+fn splits() {
+    assert_eq!(gains(&[0.0]), [32768]);
+    assert_eq!(gains(&[0.0; 2]), [16384; 2]);
+    assert_eq!(gains(&[-7.25; 3]), [10923, 10923, 10922]);
+    assert_eq!(gains(&[f32::MAX; 5]), [6554, 6554, 6554, 6553, 6553]);
+    assert_eq!(gains(&[0.0, -100.0]), [32768, 0]);
+    assert_eq!(gains(&[0.0, MASK, 0.0]), [16384, 0, 16384]);
+    assert_eq!(refusal(&[]), (7, 0));
+    assert_eq!(refusal(&[0.0; 17]), (7, 0));
+    assert_eq!(refusal(&[MASK; 3]), (5, 0));
+    assert_eq!(refusal(&[0.0, f32::NAN]), (4, 1));
+}
+
+#[test]
+fn operators() {
+    assert_eq!(eval(Op::ReducedRangeExp, 0.0).to_bits(), 0x3f80_0000);
+    assert_eq!(eval(Op::Exp, 104.0).to_bits(), 0x7f80_0000);
+    assert_eq!(eval(Op::Exp, -104.0).to_bits(), 0);
+    assert_eq!(eval(Op::Tanh, 0.0).to_bits(), 0x8000_0000);
+    assert_eq!(apply(Op::Sin, &[48000.0], &mut [0.0]).number, 4);
+    for (n, number) in [(16_384, 0), (16_385, 2)] {
+        assert_eq!(apply(Op::Exp, &vec![0.0; n], &mut vec![0.0; n]).number, number);
+    }
+}
+
+#[test]
+fn codes() {
+    let mut out = [9; 5];
+    assert_eq!(quantize(1.0, 0, &[0.5, 1.5, 2.5, -1.0, 300.0], &mut out), DONE);
+    assert_eq!(out, [0, 2, 2, 0, 255]);
+    let mut out = [9];
+    assert_eq!(quantize(1.0, 128, &[-0.5], &mut out), DONE);
+    assert_eq!(out, [128]);
+}
+
+#[test]
+fn one_row_table() {
+    let mut bytes = [9; 512];
+    assert_eq!(write(1, 1, &[32768], &mut bytes), DONE);
+    assert_eq!(bytes[..10], [1, 0, 0, 0, 1, 0, 1, 0, 0, 0x80]);
+    assert!(bytes[10..508].iter().all(|&b| b == 0));
+    assert_eq!(bytes[508..], [0x83, 0, 0x0d, 5]);
+    let (header, gains) = read(&bytes, 1).unwrap();
+    assert_eq!((header.bands, header.rows, gains), (1, 1, vec![32768]));
+    assert_eq!(read_block(0, &bytes).unwrap().1, 1);
+}
