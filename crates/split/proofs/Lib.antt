@@ -1,0 +1,7 @@
+pub mod Bits
+pub mod Shares
+pub mod Steps
+pub mod Positive
+pub mod Passed
+pub mod Determined
+pub mod Place

@@ -1,0 +1,74 @@
+-- Document 01's sums by hand for the split, marked P there, of what the call tells and leaves. Assumes nothing.
+use Prim.Native.Nat.{ℕ}
+use mathlib.Core.Path.{_≡_, refl, sym, ap, _∙_}
+use mathlib.Core.Bool.{true, false, not}
+use mathlib.Core.List.{List, [], _∷_}
+use borrow.Author.Tests.{eq-eqb}
+use lib.Dec.{T, ltb, lit≤}
+use lib.ListN.{length}
+use lib.Ieee.{Float, inf, binary32, fits, ofBits, add, sub, mul, div, round, lt, toSigned}
+use lib.Ieee.Scale.{finite}
+use Rattle.answer.specs.Answer.{toldOf, whenDone}
+use Rattle.answer.proofs.Chain.{gives, skip, clear}
+use Rattle.consts.specs.Consts.{f32, zeroF}
+use Rattle.exp.specs.Exp.{reducedRangeExpOf}
+use Rattle.lists.specs.Index.{sumTo, tab, firstNot}
+use Rattle.min_max.specs.MinMax.{extremeFrom}
+use Rattle.sum.specs.Sum.{sumFrom}
+use Rattle.softmax.specs.Softmax.{firstOutside, allMasked, maxOf, expsOf, sumOf, weightsOf}
+use Rattle.split.specs.Limits.{bandLimit}
+use Rattle.split.specs.Parts.{total, lt1, over, comes, rank, gain, gainsOver, gainsOf}
+use Rattle.split.specs.Split.{stepsOf, levelSteps, splitAnswer}
+use Rattle.split_facts.proofs.Equal.{equal-bands}
+use Rattle.split_facts.proofs.Splits.{Splits}
+
+-- a list of one level, repeated, whatever finite level it is
+abbrev Equally : (Float → List Float) → List ℕ → Type 0
+Equally s l = (x : Float) → T (fits binary32 x) → T (finite x) → Splits (s x) l
+
+-- the six cases; -100 is 0xc2c80000
+pub record SplitByHand : Type 0 where
+  pub one : Splits (zeroF ∷ []) (32768 ∷ [])
+  pub two : Splits (zeroF ∷ zeroF ∷ []) (16384 ∷ 16384 ∷ [])
+  pub three : Equally (λ x. x ∷ x ∷ x ∷ []) (10923 ∷ 10923 ∷ 10922 ∷ [])
+  pub five : Equally (λ x. x ∷ x ∷ x ∷ x ∷ x ∷ []) (6554 ∷ 6554 ∷ 6554 ∷ 6553 ∷ 6553 ∷ [])
+  pub far : Splits (zeroF ∷ f32 0xc2c8_0000 ∷ []) (32768 ∷ 0 ∷ [])
+  pub masked : Splits (zeroF ∷ inf true ∷ zeroF ∷ []) (16384 ∷ 0 ∷ 16384 ∷ [])
+
+-- ---- computed: the tests, and the gains
+record Computed (s : List Float) (l : List ℕ) : Type 0 where
+  some : ltb (length s) 1 ≡ false
+  few : ltb bandLimit (length s) ≡ false
+  inside : ltb (firstOutside s) (length s) ≡ false
+  shown : allMasked s ≡ false
+  gains : gainsOf (levelSteps s) ≡ l
+
+computed : {s : List Float} {l : List ℕ} → Computed s l → Splits s l
+unfolding splitAnswer
+computed {s} {l} c g n =
+    let lent = ap not (eq-eqb (length s) (length g) (sym n)) in
+    let a = gives (skip (c .some) (skip (c .few) (skip lent (skip (c .inside) (skip (c .shown) clear))))) in
+    (sym (ap toldOf a), sym (ap (λ a. whenDone a (gainsOf (levelSteps s)) g) a) ∙ c .gains)
+
+far-masked : Computed (zeroF ∷ f32 0xc2c8_0000 ∷ []) (32768 ∷ 0 ∷ [])
+    × Computed (zeroF ∷ inf true ∷ zeroF ∷ []) (16384 ∷ 0 ∷ 16384 ∷ [])
+unfolding ofBits firstNot firstOutside allMasked levelSteps weightsOf sumOf sumFrom expsOf maxOf extremeFrom reducedRangeExpOf stepsOf add sub mul div round lt toSigned gainsOver gain rank over comes total sumTo tab lt1
+far-masked = (
+  record { some = refl; few = refl; inside = refl; shown = refl; gains = refl },
+  record { some = refl; few = refl; inside = refl; shown = refl; gains = refl },
+)
+
+zero-f32 : T (fits binary32 zeroF) × T (finite zeroF)
+unfolding ofBits fits
+zero-f32 = (tt, tt)
+
+pub split-by-hand : SplitByHand
+unfolding tab lt1
+split-by-hand = record {
+  one = equal-bands 1 zeroF (lit≤ tt) (lit≤ tt) (zero-f32 .0) (zero-f32 .1);
+  two = equal-bands 2 zeroF (lit≤ tt) (lit≤ tt) (zero-f32 .0) (zero-f32 .1);
+  three = λ x F f. equal-bands 3 x (lit≤ tt) (lit≤ tt) F f;
+  five = λ x F f. equal-bands 5 x (lit≤ tt) (lit≤ tt) F f;
+  far = computed (far-masked .0);
+  masked = computed (far-masked .1);
+}

@@ -1,0 +1,76 @@
+-- Equal bands: of n equal finite levels, whatever they are, band i gets 32768 / n, and one part more below 32768 % n. Assumes nothing.
+use Prim.Native.Nat.{ℕ, zero, suc, _+_, _*_, _/_, _%_, _≤_, _<_}
+use mathlib.Core.Path.{_≡_, refl, sym, ap, _∙_, subst}
+use mathlib.Core.Bool.{true, false}
+use mathlib.Core.Logic.{inl, inr}
+use mathlib.Core.List.{List, map, _∷_}
+use native.Mathlib.Nat.{eq-zero-or-pos, mul-zero}
+use native.Mathlib.Omega.{arith}
+use lib.Dec.{T}
+use lib.ListN.{length, getD, replicate, length-replicate, getD-replicate}
+use lib.Ieee.{Float, nan, inf, binary32, mul, div, fits}
+use lib.Ieee.Scale.{finite}
+use Rattle.consts.specs.Consts.{oneF}
+use Rattle.lists.specs.Index.{tab}
+use Rattle.softmax.specs.Softmax.{maxOf, expLess, expsOf, sumOf, weightsOf}
+use Rattle.split.specs.Limits.{parts, bandLimit}
+use Rattle.split.specs.Parts.{total, lt1, gainsOf}
+use Rattle.split.specs.Split.{stepsOf, levelSteps}
+use Rattle.split_facts.proofs.Even.{evens-total, evens-gains}
+use Rattle.split_facts.proofs.Splits.{Levels, Splits, levels-total, levels-split}
+
+map-replicate : {A B : Type 0} (f : A → B) (n : ℕ) (x : A) → map f (replicate n x) ≡ replicate n (f x)
+map-replicate f zero x = refl
+map-replicate f (suc n) x = ap (λ l. f x ∷ l) (map-replicate f n x)
+
+-- equal levels have equal steps
+module _ (n : ℕ) (x : Float) where
+  abbrev levels : List Float
+  levels = replicate n x
+
+  abbrev scale : Float → Float
+  scale e = mul binary32 e (div binary32 oneF (sumOf (expsOf levels)))
+
+  abbrev step : ℕ
+  step = stepsOf (scale (expLess (maxOf levels) x))
+
+  equal-steps : levelSteps levels ≡ replicate n step
+  unfolding levelSteps weightsOf expsOf
+  equal-steps =
+      ap (λ l. map stepsOf (map scale l)) (map-replicate (expLess (maxOf levels)) n x)
+      ∙ ap (map stepsOf) (map-replicate scale n (expLess (maxOf levels) x))
+      ∙ map-replicate stepsOf n (scale (expLess (maxOf levels) x))
+
+finite-not : (x : Float) → T (finite x) → (x ≡ nan → ⊥) × (x ≡ inf false → ⊥) × (x ≡ inf true → ⊥)
+finite-not x f = (λ e. subst (λ y. T (finite y)) e f, λ e. subst (λ y. T (finite y)) e f, λ e. subst (λ y. T (finite y)) e f)
+
+module _ (n : ℕ) (x : Float) (some : 1 ≤ n) (few : n ≤ bandLimit) (F : T (fits binary32 x)) (f : T (finite x)) where
+  at-each : (P : Float → Type 0) → P x → (i : ℕ) → i < length (replicate n x) → P (getD (replicate n x) i nan)
+  at-each P p i h = subst P (sym (getD-replicate n i x nan (subst (λ k. i < k) (length-replicate n x) h))) p
+
+  equal-levels : Levels (replicate n x)
+  equal-levels =
+      let k = finite-not x f in
+      let l = length-replicate n x in
+      let first : 0 < length (replicate n x) = omega arith in
+      record {
+        some = omega arith;
+        few = omega arith;
+        f32s = at-each (λ y. T (fits binary32 y)) F;
+        numbers = at-each (λ y. (y ≡ nan → ⊥) × (y ≡ inf false → ⊥)) (k .0, k .1);
+        unmasked = (0, first, at-each (λ y. y ≡ inf true → ⊥) (k .2) 0 first);
+      }
+
+  step-some : 0 < step n x
+  step-some = elim (eq-zero-or-pos (step n x)) [
+    | inr p ↦ p
+    | inl z ↦ (
+        let t = ap total (equal-steps n x) ∙ evens-total n (step n x) ∙ ap (λ k. n * k) z ∙ mul-zero n in
+        absurd (omega (arith, levels-total (replicate n x) equal-levels))
+        )
+  ]
+
+  pub equal-bands : Splits (replicate n x) (tab (λ i. parts / n + lt1 i (parts % n)) n)
+  equal-bands =
+      subst (Splits (replicate n x)) (ap gainsOf (equal-steps n x) ∙ evens-gains parts n (step n x) step-some)
+      (levels-split (replicate n x) equal-levels)

@@ -1,0 +1,8 @@
+pub mod Sums
+pub mod Order
+pub mod Nearest
+pub mod Even
+pub mod Splits
+pub mod Demand3
+pub mod Equal
+pub mod Cases
