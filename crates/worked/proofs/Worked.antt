@@ -2,10 +2,10 @@
 use Prim.Native.Nat.{ℕ}
 use mathlib.Core.Path.{_≡_, refl, sym, ap, _∙_}
 use mathlib.Core.Bool.{Bool, false, not}
-use mathlib.Core.List.{List, [], _∷_, _++_, map}
+use mathlib.Core.List.{List, [], _∷_, map}
 use borrow.Author.Tests.{eq-eqb}
 use lib.Dec.{ltb, eqb}
-use lib.ListN.{length, replicate}
+use lib.ListN.{length}
 use lib.Ieee.{Float, inf, fits, ofBits, add, sub, mul, round, lt, le, neg, toSigned}
 use lib.Ieee.Scale.{finite}
 use Rattle.answer.specs.Answer.{judged, toldOf, whenDone}
@@ -18,6 +18,7 @@ use Rattle.consts.specs.Consts.{f32, zeroF, oneF}
 use Rattle.exp.specs.Exp.{expOf, reducedRangeExpOf}
 use Rattle.floats.specs.Float.{firstNotFinite}
 use Rattle.lists.specs.Index.{firstNot, sumTo}
+use Rattle.listing.specs.Listed.{listed}
 use Rattle.quantize.specs.Code.{codeOf, heldOf, quantizeAnswer, quantizeTold, quantizeOut}
 use Rattle.quantize.proofs.Cases.{handInputs, by-hand}
 use Rattle.split_facts.proofs.Cases.{SplitByHand, split-by-hand}
@@ -29,6 +30,7 @@ use Rattle.tanh.specs.Tanh.{sizeOf, tanhOf}
 use Rattle.unary.specs.Unary.{evalOf, alphaOk, firstOutside, applyAnswer, applyTold, applyOut}
 use Rattle.unary.specs.declared.Op.{Op}
 use Rattle.unary.specs.declared.Op.the-variants.{Exp, ReducedRangeExp, Tanh}
+use Rattle.worked.proofs.Listing.{oneBand, twoLines, one-listed}
 
 -- the call is done and leaves l, whatever of the right length is lent
 abbrev pub Applies : Op → List Float → List Float → Type 0
@@ -50,8 +52,8 @@ pub record Worked : Type 0 where
   pub tanh-zero : Applies Tanh (zeroF ∷ []) (f32 0x8000_0000 ∷ [])
   pub codes : Quantizes oneF 0 handInputs (0 ∷ 2 ∷ 2 ∷ 0 ∷ 255 ∷ [])
   pub code-tie : Quantizes oneF 128 (f32 0xbf00_0000 ∷ []) (128 ∷ [])
-  pub table : Writes 1 1 (32768 ∷ [])
-      (0x01 ∷ 0x00 ∷ 0x00 ∷ 0x00 ∷ 0x01 ∷ 0x00 ∷ 0x01 ∷ 0x00 ∷ 0x00 ∷ 0x80 ∷ replicate 498 0 ++ (0x83 ∷ 0x00 ∷ 0x0D ∷ 0x05 ∷ []))
+  pub table : Writes 1 1 (32768 ∷ []) oneBand
+  pub lines : listed oneBand ≡ twoLines
 
 -- ---- a call past its four tests, the first of which compares the lengths
 module _ {A : Type 0} {n m : ℕ} {b c d : Bool} (p q r : Refusal) (new old : A) where
@@ -116,4 +118,5 @@ worked = record {
   table = λ d n.
       let a = ap (writeAnswer form1 1 1 (32768 ∷ [])) n ∙ one-written in
       (ap toldOf a, ap (λ a. whenDone a (tableBytes (form1 .code) (form1 .width 1) 1 1 (32768 ∷ [])) d) a ∙ one-band);
+  lines = one-listed;
 }

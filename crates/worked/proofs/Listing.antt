@@ -1,0 +1,48 @@
+-- Document 01's table of one band, one row, 32768, and the lister's two lines for its bytes. Assumes nothing.
+use Prim.Native.Nat.{ℕ, _<_}
+use mathlib.Core.Path.{_≡_, refl, ap, subst, _∙_}
+use mathlib.Core.Bool.{true}
+use mathlib.Core.List.{List, [], _∷_, _++_}
+use native.Mathlib.Omega.{arith}
+use lib.ListN.{replicate}
+use Rattle.lists.specs.Index.{sumTo}
+use Rattle.listing.specs.Listed.{answerText, listed}
+use Rattle.listing.proofs.Case as listing
+use Rattle.table.specs.Limits.{form1}
+use Rattle.table.specs.Read.{gainsOf}
+use Rattle.table.specs.Told.{tableTold}
+use Rattle.table.specs.Write.{rowOk, gainOf}
+use Rattle.table.proofs.Case as table
+use Rattle.table_trips.proofs.Readable.{told-judged}
+use Rattle.table_trips.proofs.Written.{table-reads, some-block, gains-back}
+
+abbrev pub oneBand : List ℕ
+oneBand = 0x01 ∷ 0x00 ∷ 0x00 ∷ 0x00 ∷ 0x01 ∷ 0x00 ∷ 0x01 ∷ 0x00 ∷ 0x00 ∷ 0x80 ∷ replicate 498 0 ++ (0x83 ∷ 0x00 ∷ 0x0D ∷ 0x05 ∷ [])
+
+-- `bands 1 rows 1` and `0 32768`, each with its line feed, in ASCII
+abbrev pub twoLines : List ℕ
+twoLines =
+    98 ∷ 97 ∷ 110 ∷ 100 ∷ 115 ∷ 32 ∷ 49 ∷ 32 ∷ 114 ∷ 111 ∷ 119 ∷ 115 ∷ 32 ∷ 49 ∷ 10 ∷ 48 ∷ 32 ∷ 51 ∷ 50 ∷ 55 ∷ 54 ∷ 56 ∷ 10 ∷ []
+
+abbrev gains : List ℕ
+gains = 32768 ∷ []
+
+row-0 : rowOk 32768 (gainOf gains) 1 0 ≡ true
+unfolding rowOk sumTo
+row-0 = refl
+
+adds : (R : ℕ) → R < 1 → rowOk 32768 (gainOf gains) 1 R ≡ true
+adds R l = subst (λ r. rowOk 32768 (gainOf gains) 1 r ≡ true) (let z : 0 ≡ R = omega arith in z) row-0
+
+one-told : tableTold form1 oneBand ≡ (0, 0, 1, 1)
+one-told =
+    subst (λ (s : List ℕ). tableTold form1 s ≡ (0, 0, 1, 1)) table.one-band
+    (told-judged _ 1 1 (table-reads 1 1 gains refl adds) (some-block 1 1 gains refl adds))
+
+one-gains : gainsOf form1 oneBand ≡ gains
+one-gains = subst (λ (s : List ℕ). gainsOf form1 s ≡ gains) table.one-band (gains-back 1 1 gains refl adds refl)
+
+pub one-listed : listed oneBand ≡ twoLines
+unfolding listed answerText
+one-listed =
+    ap (λ t. answerText t (gainsOf form1 oneBand)) one-told ∙ ap (answerText (0, 0, 1, 1)) one-gains ∙ listing.one-band
