@@ -1,9 +1,9 @@
 -- The first place that fails a test: to it, from the places that a search has passed, and back. Assumes nothing.
-use Prim.Native.Nat.{ℕ, zero, suc, _≤_, _<_}
-use mathlib.Core.Path.{_≡_, refl, ap}
-use mathlib.Core.Bool.{Bool, true, false, cond}
+use Prim.Native.Nat.{ℕ, zero, suc, _+_, _≤_, _<_}
+use mathlib.Core.Path.{_≡_, refl, sym, ap, _∙_}
+use mathlib.Core.Bool.{Bool, true, false, cond, not, _||_, true≢false}
 use native.Mathlib.Omega.{arith}
-use borrow.Author.Count.{below-none}
+use borrow.Author.Count.{below-none, below-more}
 use Rattle.lists.specs.Index.{firstNot}
 
 -- p passes every place below i. (The kit's `below-none` and `below-more` are its laws in a loop.)
@@ -66,3 +66,21 @@ unfolding firstNot
 first-same p q zero h = refl
 first-same p q (suc n) h =
     rw (h 0 (omega arith), first-same (λ k. p (suc k)) (λ k. q (suc k)) n (λ k l. h (suc k) (omega arith)))
+
+-- a look that never ends early: where it has seen no failure, p passes every place below i
+abbrev pub Looked : (ℕ → Bool) → Bool → ℕ → Type 0
+Looked p bad i = bad ≡ false → Passed p i
+
+pub looked-none : (p : ℕ → Bool) {bad : Bool} → Looked p bad 0
+looked-none p e = below-none (λ k. p k ≡ true)
+
+pub looked-more : (p : ℕ → Bool) (bad ok : Bool) (i : ℕ) → Looked p bad i → ok ≡ p i → Looked p (bad || not ok) (i + 1)
+looked-more p bad ok i l e h = below-more (λ k. p k ≡ true) i (l (both bad ok h .0)) (sym e ∙ both bad ok h .1)
+  where
+    both : (bad ok : Bool) → (bad || not ok) ≡ false → (bad ≡ false) × (ok ≡ true)
+    both true ok h = absurd (true≢false h)
+    both false true h = (refl, refl)
+    both false false h = absurd (true≢false h)
+
+pub looked-end : (p : ℕ → Bool) (bad : Bool) (n i : ℕ) → Looked p bad i → n ≤ i → Looked p bad n
+looked-end p bad n i l h e k m = l e k (omega arith)

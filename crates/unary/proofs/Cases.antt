@@ -2,7 +2,7 @@
 use Prim.Native.Nat.{ℕ}
 use mathlib.Core.List.{List, [], _∷_}
 use mathlib.Core.Bool.{Bool, true, false, _&&_, false≢true}
-use mathlib.Core.Path.{_≡_, refl}
+use mathlib.Core.Path.{_≡_, refl, sym}
 use types.Run.{OneOf, miss}
 use denote.Enum.Declared.{tagOf}
 use lib.Ieee.{Float, lt, le}
@@ -32,7 +32,7 @@ no-alpha ApproxGelu h = refl
 no-alpha Sin h = refl
 no-alpha Cos h = refl
 
--- those that take every finite number
+-- those that take every finite number, by their tags
 abbrev wide : List ℕ
 wide = 0 ∷ 2 ∷ 3 ∷ 4 ∷ 5 ∷ 6 ∷ 7 ∷ 8 ∷ 9 ∷ []
 
@@ -49,6 +49,9 @@ no-more Gelu x h = refl
 no-more ApproxGelu x h = refl
 no-more Sin x h = absurd (miss wide 10 tt h)
 no-more Cos x h = absurd (miss wide 11 tt h)
+
+pub wide-in : (op : Op) (x : Float) → OneOf wide (tagOf the-type op) → finite x ≡ true → inDomain op x ≡ true
+wide-in op x h e = rw (e, sym (no-more op x h))
 
 second : (a b : Bool) → (a && b) ≡ true → b ≡ true
 second true b h = h

@@ -7,6 +7,11 @@ ghost use lib.Ieee.{nan};
 ghost use lib.ListN.{length, getD};
 ghost use Rattle.answer.specs.Answer.{toldOf};
 ghost use Rattle.unary.specs.Unary.{evalOf, alsoIn, inDomain, alphaOk, firstOutside, applyTold, applyOut};
+
+mod fills;
+mod looks;
+
+use crate::looks::any_outside;
 use answer::Answer;
 use answer::ELEMENT_LIMIT;
 use answer::Refusal;
@@ -27,27 +32,6 @@ pub enum Op {
     ApproxGelu,
     Sin,
     Cos,
-}
-
-// One element in the operator's domain. For the crates above.
-pub fn eval(op: Op, x: f32) -> f32
-    requires { ⌜ inDomain op x ≡ true ⌝ }
-    ensures { λ r. ⌜ r ≡ evalOf op x ⌝ }
-{
-    match op {
-        Op::Exp => exp::exp(x),
-        Op::ReducedRangeExp => exp::reduced_range_exp(x),
-        Op::Sigmoid => exp::sigmoid(x),
-        Op::Silu => exp::silu(x),
-        Op::Swish(alpha) => exp::swish(alpha, x),
-        Op::Elu(alpha) => exp::elu(alpha, x),
-        Op::Tanh => tanh::tanh(x),
-        Op::Erf => erf::erf(x),
-        Op::Gelu => erf::gelu(x),
-        Op::ApproxGelu => erf::approx_gelu(x),
-        Op::Sin => sin_cos::sin(x),
-        Op::Cos => sin_cos::cos(x),
-    }
 }
 
 fn also_in(op: Op, x: f32) -> bool
@@ -82,6 +66,9 @@ pub fn alpha_ok(op: Op) -> bool
 fn first_outside(op: Op, src: &[f32]) -> usize
     ensures { λ r. ⌜ r ≡ firstOutside op (now (src .entry)) ⌝ }
 {
+    if !any_outside(op, src) {
+        return src.len();
+    }
     let mut i = 0;
     while i < src.len() {
         if !in_domain(op, src[i]) {
@@ -97,10 +84,19 @@ fn fill(op: Op, src: &[f32], dst: &mut [f32])
     requires { ⌜ ((i : ℕ) → i < length (now src) → inDomain op (getD (now src) i nan) ≡ true) ⌝ }
     ensures { λ _. ⌜ now (dst .exit) ≡ map (evalOf op) (now (src .entry)) ⌝ }
 {
-    let mut i: usize = 0;
-    while i < src.len() {
-        dst[i] = eval(op, src[i]);
-        i += 1;
+    match op {
+        Op::Exp => fills::exp(src, dst),
+        Op::ReducedRangeExp => fills::reduced_range_exp(src, dst),
+        Op::Sigmoid => fills::sigmoid(src, dst),
+        Op::Silu => fills::silu(src, dst),
+        Op::Swish(alpha) => fills::swish(alpha, src, dst),
+        Op::Elu(alpha) => fills::elu(alpha, src, dst),
+        Op::Tanh => fills::tanh(src, dst),
+        Op::Erf => fills::erf(src, dst),
+        Op::Gelu => fills::gelu(src, dst),
+        Op::ApproxGelu => fills::approx_gelu(src, dst),
+        Op::Sin => fills::sin(src, dst),
+        Op::Cos => fills::cos(src, dst),
     }
 }
 

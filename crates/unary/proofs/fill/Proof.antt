@@ -1,81 +1,203 @@
-use Prim.Native.Nat.{_-_, _≤_, _<_}
-use mathlib.Core.Path.{sym, _∙_}
-use native.Mathlib.Omega.{arith}
-use denote.Ref.{now}
-use lib.Ieee.{nan}
-use lib.ListN.{length, getD}
-use Rattle.lists.specs.Index.{Filled}
-use Rattle.lists.proofs.Placed.{placed-none, placed-more, filled-all}
-use Rattle.lists.proofs.Tab.{tab-map}
-use Rattle.unary.specs.Unary.{evalOf}
+use Rattle.unary.proofs.Cases.{not-above}
 use borrow.Author.Needs.{needs}
 use Rattle.unary.proofs.fill.Statement.{statement}
 use Rattle.unary.proofs.fill.Tie as tie
 
-abbrev Inv-loop : tie.InvT-loop
-Inv-loop op src dst₀ i₀ dst i = (i ≤ length src) × Filled nan dst₀ dst i (λ k. evalOf op (getD src k nan))
+enum-told : tie.Need-enum-told
+enum-told c = search needs
 
-abbrev μ-loop : tie.MeasureT-loop
-μ-loop op src dst₀ i₀ dst i = length src - i
+exp-requires : tie.Need-exp-requires
+exp-requires c κs = search needs
 
-loop-holds : tie.Need-loop-holds Inv-loop μ-loop
-loop-holds c = (search needs, placed-none _ _ _)
+enum-told-2 : tie.Need-enum-told-2
+enum-told-2 c = search needs
 
-mul-eval : tie.Need-mul-eval Inv-loop μ-loop
-mul-eval c = search needs
+reduced-range-exp-requires : tie.Need-reduced-range-exp-requires
+reduced-range-exp-requires c κs =
+    let start = c .before .before .before .before .before in
+    (start .pre .0, λ i h. not-above (start .args .op) _ (c .before .enum-told2 .given .1) (start .pre .1 i h))
 
-shared-slice-read-eval : tie.Need-shared-slice-read-eval Inv-loop μ-loop
-shared-slice-read-eval c = search needs
+enum-told-3 : tie.Need-enum-told-3
+enum-told-3 c = search needs
 
-eval-requires : tie.Need-eval-requires Inv-loop μ-loop
-eval-requires c κs = c .before .before .before .before .before .pre .1 (c .before .before .loop .i) (c .before .loop-test .taken)
+sigmoid-requires : tie.Need-sigmoid-requires
+sigmoid-requires c κs = search needs
 
-mul-dst : tie.Need-mul-dst Inv-loop μ-loop
-mul-dst c = search needs
+enum-told-4 : tie.Need-enum-told-4
+enum-told-4 c = search needs
 
-slice-write-dst : tie.Need-slice-write-dst Inv-loop μ-loop
-slice-write-dst c =
-    let at = c .before .before .before in
-    omega (arith, at .loop .inv .1 .long, at .before .before .before .pre .0, c .before .before .loop-test .taken)
+silu-requires : tie.Need-silu-requires
+silu-requires c κs = search needs
 
-add-i : tie.Need-add-i Inv-loop μ-loop
-add-i c = search needs
+enum-known-op : tie.Need-enum-known-op
+enum-known-op c = search needs
 
-loop-less : tie.Need-loop-less Inv-loop μ-loop
-loop-less c = omega arith
+swish-requires : tie.Need-swish-requires
+swish-requires c κs = search needs
 
-loop-again : tie.Need-loop-again Inv-loop μ-loop
-loop-again c =
-    let at = c .before .before .before in
-    let start = at .before .before .before in
-    let room : at .loop .i < length (now (start .args .dst)) = omega (arith, start .pre .0, c .before .before .loop-test .taken) in
-    (search needs, placed-more (now (start .args .dst)) (at .loop .dst) 0 (at .loop .i) _ (c .eval .result) (at .loop .inv .1) (search needs) room (c .eval .ensures))
+enum-known-op-2 : tie.Need-enum-known-op-2
+enum-known-op-2 c = search needs
 
-same-length : tie.Need-same-length Inv-loop μ-loop
-same-length c = c .before .loop .inv .1 .long
+elu-requires : tie.Need-elu-requires
+elu-requires c κs = search needs
 
-returns : tie.Need-returns Inv-loop μ-loop
-returns c =
-    let at = c .before in
-    let start = at .before .before .before in
-    let src = now (start .args .src) in
-    filled-all (now (start .args .dst)) (at .loop .dst) (length src) (at .loop .i) _ (at .loop .inv .1) (sym (start .pre .0)) (c .loop-test .left)
-    ∙ tab-map _ nan src
+enum-told-5 : tie.Need-enum-told-5
+enum-told-5 c = search needs
+
+tanh-requires : tie.Need-tanh-requires
+tanh-requires c κs = search needs
+
+enum-told-6 : tie.Need-enum-told-6
+enum-told-6 c = search needs
+
+erf-requires : tie.Need-erf-requires
+erf-requires c κs = search needs
+
+enum-told-7 : tie.Need-enum-told-7
+enum-told-7 c = search needs
+
+gelu-requires : tie.Need-gelu-requires
+gelu-requires c κs = search needs
+
+enum-told-8 : tie.Need-enum-told-8
+enum-told-8 c = search needs
+
+approx-gelu-requires : tie.Need-approx-gelu-requires
+approx-gelu-requires c κs = search needs
+
+enum-told-9 : tie.Need-enum-told-9
+enum-told-9 c = search needs
+
+sin-requires : tie.Need-sin-requires
+sin-requires c κs = search needs
+
+enum-told-10 : tie.Need-enum-told-10
+enum-told-10 c = search needs
+
+cos-requires : tie.Need-cos-requires
+cos-requires c κs = search needs
+
+same-length : tie.Need-same-length
+same-length c = search needs
+
+returns : tie.Need-returns
+returns c = rw (c .before .before .before .before .enum-told .given .1) (c .before .before .exp .ensures)
+
+same-length-2 : tie.Need-same-length-2
+same-length-2 c = search needs
+
+returns-2 : tie.Need-returns-2
+returns-2 c = rw (c .before .before .before .before .enum-told2 .given .1) (c .before .before .reduced-range-exp .ensures)
+
+same-length-3 : tie.Need-same-length-3
+same-length-3 c = search needs
+
+returns-3 : tie.Need-returns-3
+returns-3 c = rw (c .before .before .before .before .enum-told3 .given .1) (c .before .before .sigmoid .ensures)
+
+same-length-4 : tie.Need-same-length-4
+same-length-4 c = search needs
+
+returns-4 : tie.Need-returns-4
+returns-4 c = rw (c .before .before .before .before .enum-told4 .given .1) (c .before .before .silu .ensures)
+
+same-length-5 : tie.Need-same-length-5
+same-length-5 c = search needs
+
+returns-5 : tie.Need-returns-5
+returns-5 c = rw (c .before .before .before .before .before .op .given .1) (c .before .before .swish .ensures)
+
+same-length-6 : tie.Need-same-length-6
+same-length-6 c = search needs
+
+returns-6 : tie.Need-returns-6
+returns-6 c = rw (c .before .before .before .before .before .op2 .given .1) (c .before .before .elu .ensures)
+
+same-length-7 : tie.Need-same-length-7
+same-length-7 c = search needs
+
+returns-7 : tie.Need-returns-7
+returns-7 c = rw (c .before .before .before .before .enum-told5 .given .1) (c .before .before .tanh .ensures)
+
+same-length-8 : tie.Need-same-length-8
+same-length-8 c = search needs
+
+returns-8 : tie.Need-returns-8
+returns-8 c = rw (c .before .before .before .before .enum-told6 .given .1) (c .before .before .erf .ensures)
+
+same-length-9 : tie.Need-same-length-9
+same-length-9 c = search needs
+
+returns-9 : tie.Need-returns-9
+returns-9 c = rw (c .before .before .before .before .enum-told7 .given .1) (c .before .before .gelu .ensures)
+
+same-length-10 : tie.Need-same-length-10
+same-length-10 c = search needs
+
+returns-10 : tie.Need-returns-10
+returns-10 c = rw (c .before .before .before .before .enum-told8 .given .1) (c .before .before .approx-gelu .ensures)
+
+same-length-11 : tie.Need-same-length-11
+same-length-11 c = search needs
+
+returns-11 : tie.Need-returns-11
+returns-11 c = rw (c .before .before .before .before .enum-told9 .given .1) (c .before .before .sin .ensures)
+
+same-length-12 : tie.Need-same-length-12
+same-length-12 c = search needs
+
+returns-12 : tie.Need-returns-12
+returns-12 c = rw (c .before .before .before .before .enum-told10 .given .1) (c .before .before .cos .ensures)
 
 pub fill-spec : {M : Type 1} → statement M
 fill-spec =
     tie.close
     (tie.spec
-    Inv-loop
-    μ-loop
-    loop-holds
-    mul-eval
-    shared-slice-read-eval
-    eval-requires
-    mul-dst
-    slice-write-dst
-    add-i
-    loop-less
-    loop-again
+    enum-told
+    exp-requires
+    enum-told-2
+    reduced-range-exp-requires
+    enum-told-3
+    sigmoid-requires
+    enum-told-4
+    silu-requires
+    enum-known-op
+    swish-requires
+    enum-known-op-2
+    elu-requires
+    enum-told-5
+    tanh-requires
+    enum-told-6
+    erf-requires
+    enum-told-7
+    gelu-requires
+    enum-told-8
+    approx-gelu-requires
+    enum-told-9
+    sin-requires
+    enum-told-10
+    cos-requires
     same-length
-    returns)
+    returns
+    same-length-2
+    returns-2
+    same-length-3
+    returns-3
+    same-length-4
+    returns-4
+    same-length-5
+    returns-5
+    same-length-6
+    returns-6
+    same-length-7
+    returns-7
+    same-length-8
+    returns-8
+    same-length-9
+    returns-9
+    same-length-10
+    returns-10
+    same-length-11
+    returns-11
+    same-length-12
+    returns-12)

@@ -1,5 +1,6 @@
 use Prim.Native.Nat.{_-_, _≤_}
 use mathlib.Core.Path.{sym, _∙_}
+use denote.Ref.{now}
 use lib.Ieee.{nan}
 use lib.ListN.{length, getD}
 use borrow.Author.Count.{below-none, below-more}
@@ -16,6 +17,15 @@ Inv-loop op src i₀ i = (i ≤ length src) × Passed (λ k. inDomain op (getD s
 abbrev μ-loop : tie.MeasureT-loop
 μ-loop op src i₀ i = length src - i
 
+any-outside-requires : tie.Need-any-outside-requires Inv-loop μ-loop
+any-outside-requires c κs = search needs
+
+returns : tie.Need-returns Inv-loop μ-loop
+unfolding firstOutside
+returns c =
+    let n = length (now (c .before .before .before .args .src)) in
+    first-end _ n n (search needs) (search needs) (c .before .any-outside .ensures (not-true _ (c .if1 .taken)))
+
 loop-holds : tie.Need-loop-holds Inv-loop μ-loop
 loop-holds c = (search needs, below-none _)
 
@@ -28,11 +38,12 @@ shared-slice-read-in-domain c = search needs
 in-domain-requires : tie.Need-in-domain-requires Inv-loop μ-loop
 in-domain-requires c κs = search needs
 
-returns : tie.Need-returns Inv-loop μ-loop
+returns-2 : tie.Need-returns-2 Inv-loop μ-loop
 unfolding firstOutside
-returns c =
+returns-2 c =
     let at = c .before .before .before .before in
-    first-at _ _ (at .loop .i) (c .before .before .before .loop-test .taken) (at .loop .inv .1) (sym (c .before .in-domain .ensures) ∙ not-true _ (c .if1 .taken))
+    first-at _ _ (at .loop .i) (c .before .before .before .loop-test .taken) (at .loop .inv .1)
+    (sym (c .before .in-domain .ensures) ∙ not-true _ (c .if2 .taken))
 
 add-i : tie.Need-add-i Inv-loop μ-loop
 add-i c = search needs
@@ -43,11 +54,11 @@ loop-less c = search needs
 loop-again : tie.Need-loop-again Inv-loop μ-loop
 loop-again c =
     let at = c .before .before .before .before in
-    (search needs, below-more _ (at .loop .i) (at .loop .inv .1) (sym (c .before .in-domain .ensures) ∙ not-false _ (c .if1 .left)))
+    (search needs, below-more _ (at .loop .i) (at .loop .inv .1) (sym (c .before .in-domain .ensures) ∙ not-false _ (c .if2 .left)))
 
-returns-2 : tie.Need-returns-2 Inv-loop μ-loop
+returns-3 : tie.Need-returns-3 Inv-loop μ-loop
 unfolding firstOutside
-returns-2 c =
+returns-3 c =
     let at = c .before in
     first-end _ _ (at .loop .i) (at .loop .inv .0) (c .loop-test .left) (at .loop .inv .1)
 
@@ -57,12 +68,14 @@ first-outside-spec =
     (tie.spec
     Inv-loop
     μ-loop
+    any-outside-requires
+    returns
     loop-holds
     mul-in-domain
     shared-slice-read-in-domain
     in-domain-requires
-    returns
+    returns-2
     add-i
     loop-less
     loop-again
-    returns-2)
+    returns-3)

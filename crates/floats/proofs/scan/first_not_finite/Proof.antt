@@ -1,5 +1,6 @@
 use Prim.Native.Nat.{_-_, _≤_}
 use mathlib.Core.Path.{sym, _∙_}
+use denote.Ref.{now}
 use lib.ListN.{length}
 use borrow.Author.Count.{below-none, below-more}
 use borrow.Author.Tests.{not-true, not-false}
@@ -15,6 +16,14 @@ Inv-loop src i₀ i = (i ≤ length src) × Passed (finiteAt src) i
 abbrev μ-loop : tie.MeasureT-loop
 μ-loop src i₀ i = length src - i
 
+any-not-finite-requires : tie.Need-any-not-finite-requires Inv-loop μ-loop
+any-not-finite-requires c κs = search needs
+
+returns : tie.Need-returns Inv-loop μ-loop
+returns c =
+    let n = length (now (c .before .before .before .args .src)) in
+    first-end _ n n (search needs) (search needs) (c .before .any-not-finite .ensures (not-true _ (c .if1 .taken)))
+
 loop-holds : tie.Need-loop-holds Inv-loop μ-loop
 loop-holds c = (search needs, below-none _)
 
@@ -27,10 +36,10 @@ shared-slice-read-is-finite c = search needs
 is-finite-requires : tie.Need-is-finite-requires Inv-loop μ-loop
 is-finite-requires c κs = search needs
 
-returns : tie.Need-returns Inv-loop μ-loop
-returns c =
+returns-2 : tie.Need-returns-2 Inv-loop μ-loop
+returns-2 c =
     let at = c .before .before .before .before in
-    first-at _ _ (at .loop .i) (c .before .before .before .loop-test .taken) (at .loop .inv .1) (sym (c .before .is-finite .ensures) ∙ not-true _ (c .if1 .taken))
+    first-at _ _ (at .loop .i) (c .before .before .before .loop-test .taken) (at .loop .inv .1) (sym (c .before .is-finite .ensures) ∙ not-true _ (c .if2 .taken))
 
 add-i : tie.Need-add-i Inv-loop μ-loop
 add-i c = search needs
@@ -41,10 +50,10 @@ loop-less c = search needs
 loop-again : tie.Need-loop-again Inv-loop μ-loop
 loop-again c =
     let at = c .before .before .before .before in
-    (search needs, below-more _ (at .loop .i) (at .loop .inv .1) (sym (c .before .is-finite .ensures) ∙ not-false _ (c .if1 .left)))
+    (search needs, below-more _ (at .loop .i) (at .loop .inv .1) (sym (c .before .is-finite .ensures) ∙ not-false _ (c .if2 .left)))
 
-returns-2 : tie.Need-returns-2 Inv-loop μ-loop
-returns-2 c =
+returns-3 : tie.Need-returns-3 Inv-loop μ-loop
+returns-3 c =
     let at = c .before in
     first-end _ _ (at .loop .i) (at .loop .inv .0) (c .loop-test .left) (at .loop .inv .1)
 
@@ -54,12 +63,14 @@ first-not-finite-spec =
     (tie.spec
     Inv-loop
     μ-loop
+    any-not-finite-requires
+    returns
     loop-holds
     mul-is-finite
     shared-slice-read-is-finite
     is-finite-requires
-    returns
+    returns-2
     add-i
     loop-less
     loop-again
-    returns-2)
+    returns-3)
