@@ -88,26 +88,31 @@ def gains(bands, rows):
     return out
 
 
-full = stored(16, gains(16, 1024))
-cases = [
-    ("one", stored(1, [[32768]])),
-    ("two_blocks", stored(3, gains(3, 100))),
-    ("full", full),
-    ("empty", []),
-    ("too_long", full + [b"\0"]),
-    ("short", full[:1] + [full[1][:511]]),
-    ("blocks", full[:68]),
-    ("check", full[:3] + [full[3][:100] + bytes([full[3][100] ^ 1]) + full[3][101:]] + full[4:]),
-    ("header", full[:2] + [full[5]] + full[3:]),
-    ("row", changed(full, 1, 8, full[1][8] ^ 1)),
-    ("unused", changed(full, 68, 507, 1)),
-]
-os.makedirs(f"{CRATE}/data", exist_ok=True)
-text = []
-for name, blocks in cases:
-    data = b"".join(blocks)
-    with open(f"{CRATE}/data/{name}", "wb") as f:
-        f.write(data)
-    text.append(f"{name}\n{listed(data)}")
-with open(f"{CRATE}/stdout", "w", encoding="ascii") as f:
-    f.write("".join(text))
+def main():
+    full = stored(16, gains(16, 1024))
+    cases = [
+        ("one", stored(1, [[32768]])),
+        ("two_blocks", stored(3, gains(3, 100))),
+        ("full", full),
+        ("empty", []),
+        ("too_long", full + [b"\0"]),
+        ("short", full[:1] + [full[1][:511]]),
+        ("blocks", full[:68]),
+        ("check", full[:3] + [full[3][:100] + bytes([full[3][100] ^ 1]) + full[3][101:]] + full[4:]),
+        ("header", full[:2] + [full[5]] + full[3:]),
+        ("row", changed(full, 1, 8, full[1][8] ^ 1)),
+        ("unused", changed(full, 68, 507, 1)),
+    ]
+    os.makedirs(f"{CRATE}/data", exist_ok=True)
+    text = []
+    for name, blocks in cases:
+        data = b"".join(blocks)
+        with open(f"{CRATE}/data/{name}", "wb") as f:
+            f.write(data)
+        text.append(f"{name}\n{listed(data)}")
+    with open(f"{CRATE}/stdout", "w", encoding="ascii") as f:
+        f.write("".join(text))
+
+
+if __name__ == "__main__":
+    main()

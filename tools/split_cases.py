@@ -151,11 +151,16 @@ def nearest(v):
     return n if n < 1 << 23 else (e + 150 << 23) + n - (1 << 23)
 
 
-asked, told = [], []
-for lent, levels in cases():
-    asked.append(" ".join(f"{w:08x}" for w in [lent, len(levels), *levels]))
-    number, place, left = split(levels, lent)
-    told.append(f"{number} {place}:" + "".join(f" {g}" for g in left) + f", sum {sum(left)}")
-for name, lines in ("stdin", asked), ("stdout", told):
-    with open("crates/split_cases/" + name, "w", encoding="utf-8") as out:
-        out.write("".join(line + "\n" for line in lines))
+def main():
+    asked, told = [], []
+    for lent, levels in cases():
+        asked.append(" ".join(f"{w:08x}" for w in [lent, len(levels), *levels]))
+        number, place, left = split(levels, lent)
+        told.append(f"{number} {place}:" + "".join(f" {g}" for g in left) + f", sum {sum(left)}")
+    for name, lines in ("stdin", asked), ("stdout", told):
+        with open("crates/split_cases/" + name, "w", encoding="utf-8") as out:
+            out.write("".join(line + "\n" for line in lines))
+
+
+if __name__ == "__main__":
+    main()
