@@ -1,0 +1,51 @@
+//! Splits of many pseudo-random lists.
+
+mod random;
+
+use masoritun::{MAX_BANDS, PARTS, split};
+use random::Random;
+
+/// 1 to 16 levels, close together or far apart; now and then one is masked, or one is said twice.
+fn levels(random: &mut Random) -> Vec<f32> {
+    let n = 1 + random.below(MAX_BANDS);
+    let spread = [1e-6, 0.1, 3.0, 20.0, 1e4][random.below(5)];
+    let mut levels: Vec<f32> = (0..n).map(|_| random.unit() * spread).collect();
+    for i in 1..n {
+        match random.below(8) {
+            0 => levels[i] = f32::NEG_INFINITY,
+            1 => levels[i] = levels[i - 1],
+            _ => {}
+        }
+    }
+    levels
+}
+
+/// The exact shares, but for the rounding of f64.
+fn shares(levels: &[f32]) -> Vec<f64> {
+    let largest = levels.iter().fold(f64::NEG_INFINITY, |m, &x| m.max(x as f64));
+    let weights: Vec<f64> = levels.iter().map(|&x| (x as f64 - largest).exp()).collect();
+    let total: f64 = weights.iter().sum();
+    weights.iter().map(|w| PARTS as f64 * w / total).collect()
+}
+
+#[test]
+fn gains_add_up_and_lie_by_their_shares() {
+    let mut random = Random(10);
+    for _ in 0..20_000 {
+        let levels = levels(&mut random);
+        let mut gains = vec![0; levels.len()];
+        assert_eq!(split(&levels, &mut gains), Ok(()), "{levels:?}");
+        assert_eq!(gains.iter().map(|&g| g as u32).sum::<u32>(), 32768, "{levels:?}");
+        for (i, (&gain, share)) in gains.iter().zip(shares(&levels)).enumerate() {
+            // A gain is the whole part of its share or one more; f32 weights move a share by much less than a tenth.
+            assert!((gain as f64 - share).abs() < 1.1, "band {i} of {levels:?}: {gain}, share {share}");
+            assert!(levels[i] != f32::NEG_INFINITY || gain == 0, "masked band {i} of {levels:?}");
+        }
+        for i in 1..levels.len() {
+            if levels[i] == levels[i - 1] {
+                let more = gains[i - 1].wrapping_sub(gains[i]);
+                assert!(more <= 1, "bands {i} and before of {levels:?}: {gains:?}");
+            }
+        }
+    }
+}
