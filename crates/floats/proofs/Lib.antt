@@ -19,3 +19,4 @@ pub mod Whole
 pub mod Digits
 pub mod Line
 pub mod Each
+pub mod Finite

@@ -1,6 +1,6 @@
 -- An ordered fold, `foldl`, in a loop: what is left of the fold from the value held at place i is the whole fold. Assumes nothing.
-use Prim.Native.Nat.{ℕ, suc, _+_, _≤_, _<_, suc-le-suc}
-use native.Mathlib.Nat.{zero-lt-suc}
+use Prim.Native.Nat.{ℕ, zero, suc, _+_, _≤_, _<_, suc-le-suc}
+use native.Mathlib.Nat.{zero-lt-suc, not-suc-le-zero, le-of-suc-le-suc}
 use mathlib.Core.Path.{_≡_}
 use mathlib.Core.List.{List, [], _∷_, foldl}
 use native.Mathlib.Numerals.{add-one}
@@ -23,3 +23,17 @@ module _ {A B : Type 0} (f : B → A → B) where
   fold-keeps P Q k z [] q b p = p
   fold-keeps P Q k z (x ∷ s) q b p =
       fold-keeps P Q k z s (λ i h. q (suc i) (suc-le-suc h)) (f b x) (k b x p (q 0 (zero-lt-suc (length s))))
+
+  -- what the whole fold has, where a step that has it started from what has it and from an element that has Q
+  pub fold-shows : (P : B → Type 0) (Q : A → Type 0) → ((b : B) (x : A) → P (f b x) → P b × Q x) → (z : A) (s : List A) (b : B)
+      → P (foldl f b s) → P b × ((i : ℕ) → i < length s → Q (getD s i z))
+  fold-shows P Q k z [] b p = (p, λ i h. absurd (not-suc-le-zero h))
+  fold-shows P Q k z (x ∷ s) b p =
+      let after = fold-shows P Q k z s (f b x) p in
+      let here = k b x (after .0) in
+      (here .0, step Q z x s (here .1) (after .1))
+    where
+      step : (Q : A → Type 0) (z x : A) (s : List A) → Q x → ((i : ℕ) → i < length s → Q (getD s i z))
+          → (i : ℕ) → i < length (x ∷ s) → Q (getD (x ∷ s) i z)
+      step Q z x s q r zero h = q
+      step Q z x s q r (suc i) h = r i (le-of-suc-le-suc h)

@@ -3,3 +3,4 @@ pub mod Determined
 pub mod NoNan
 pub mod Empty
 pub mod Place
+pub mod Shows

@@ -1,11 +1,15 @@
 // sum.rs of rten-vecmath over one slice: five sums of finite floats, each an ordered fold that rounds every step once.
+ghost use mathlib.Core.Bool.{true};
 ghost use mathlib.Core.Path.{_≡_};
-ghost use Rattle.sum.specs.Sum.{stepOf, sumFrom, offsetOk, totalTold, addUpTold};
+ghost use Rattle.consts.specs.Consts.{zeroF};
+ghost use Rattle.floats.specs.Float.{firstNotFinite};
+ghost use Rattle.sum.specs.Sum.{sumFrom, offsetOk, Shows, totalTold, addUpTold};
+
+mod folds;
+
 use answer::Answer;
 use answer::ELEMENT_LIMIT;
 use answer::Refusal;
-use exp::exp;
-use floats::bits::abs;
 use floats::bits::is_finite;
 use floats::scan::first_not_finite;
 
@@ -23,33 +27,17 @@ pub struct Total {
     pub value: f32,
 }
 
-// One element more.
-fn step(op: SumOp, sum: f32, x: f32) -> f32
-    ensures { λ r. ⌜ r ≡ stepOf op sum x ⌝ }
-{
-    match op {
-        SumOp::Sum => sum + x,
-        SumOp::SumSquare => x * x + sum,
-        SumOp::SumAbs => sum + abs(x),
-        SumOp::SumSquareSub(offset) => {
-            let d = x - offset;
-            d * d + sum
-        }
-        SumOp::SumExpSub(offset) => sum + exp(x - offset),
-    }
-}
-
 // The fold from a held sum on. For the crates above.
 pub fn sum_from(op: SumOp, held: f32, src: &[f32]) -> f32
     ensures { λ r. ⌜ r ≡ sumFrom op held (now (src .entry)) ⌝ }
 {
-    let mut sum = held;
-    let mut i = 0;
-    while i < src.len() {
-        sum = step(op, sum, src[i]);
-        i += 1;
+    match op {
+        SumOp::Sum => folds::sum(held, src),
+        SumOp::SumSquare => folds::sum_square(held, src),
+        SumOp::SumAbs => folds::sum_abs(held, src),
+        SumOp::SumSquareSub(offset) => folds::sum_square_sub(offset, held, src),
+        SumOp::SumExpSub(offset) => folds::sum_exp_sub(offset, held, src),
     }
-    sum
 }
 
 fn offset_ok(op: SumOp) -> bool
@@ -62,6 +50,32 @@ fn offset_ok(op: SumOp) -> bool
         SumOp::SumSquare => true,
         SumOp::SumAbs => true,
     }
+}
+
+// A step that ends finite started from a finite sum and a finite element; but the exponential of minus infinity is finite.
+fn shows_finite(op: SumOp) -> bool
+    ensures { λ r. ⌜ (r ≡ true → Shows op) ⌝ }
+{
+    match op {
+        SumOp::Sum => true,
+        SumOp::SumSquare => true,
+        SumOp::SumAbs => true,
+        SumOp::SumSquareSub(offset) => true,
+        SumOp::SumExpSub(offset) => false,
+    }
+}
+
+// The first element that is not finite: no search where the sum itself shows that there is none.
+fn first_outside(op: SumOp, value: f32, src: &[f32]) -> usize
+    requires { ⌜ value ≡ sumFrom op zeroF (now src) ⌝ }
+    ensures { λ r. ⌜ r ≡ firstNotFinite (now (src .entry)) ⌝ }
+{
+    if shows_finite(op) {
+        if is_finite(value) {
+            return src.len();
+        }
+    }
+    first_not_finite(src)
 }
 
 // The sum that `op` names, from +0.
@@ -80,14 +94,14 @@ pub fn add_up(op: SumOp, src: &[f32]) -> Total
             value: 0.0,
         };
     }
-    let bad = first_not_finite(src);
+    let value = sum_from(op, 0.0, src);
+    let bad = first_outside(op, value, src);
     if bad < src.len() {
         return Total {
             answer: Answer::Refused(Refusal::Domain(bad)),
             value: 0.0,
         };
     }
-    let value = sum_from(op, 0.0, src);
     Total {
         answer: Answer::Done,
         value,

@@ -24,29 +24,29 @@ returns-2 c =
     tells-refused _ _ (Refused NotFinite) refl
     (gives (skip (le-ltb _ _ (l .before .if1 .left)) (stop (ap not (sym (l .offset-ok .ensures)) ∙ c .if2 .taken)))) refl
 
-first-not-finite-requires : tie.Need-first-not-finite-requires
-first-not-finite-requires c κs = search needs
+sum-from-requires : tie.Need-sum-from-requires
+sum-from-requires c κs = search needs
+
+first-outside-requires : tie.Need-first-outside-requires
+first-outside-requires c κs = search needs
 
 returns-3 : tie.Need-returns-3
 unfolding addUpAnswer
 returns-3 c =
-    let l = c .before .before in
-    let bad = c .before .first-not-finite in
+    let l = c .before .before .before in
+    let bad = c .before .first-outside in
     tells-refused _ _ (Refused (Domain (bad .result))) refl
     (gives (skip (le-ltb _ _ (l .before .before .if1 .left)) (skip (ap not (sym (l .before .offset-ok .ensures)) ∙ l .if2 .left)
     (found Domain (bad .result) (bad .ensures) (c .if3 .taken))))) refl
-
-sum-from-requires : tie.Need-sum-from-requires
-sum-from-requires c κs = search needs
 
 returns-4 : tie.Need-returns-4
 unfolding addUpAnswer
 returns-4 c =
     let l = c .before .before .before in
-    let bad = c .before .before .first-not-finite in
+    let bad = c .before .first-outside in
     tells-done _ _ Done refl
     (gives (skip (le-ltb _ _ (l .before .before .if1 .left)) (skip (ap not (sym (l .before .offset-ok .ensures)) ∙ l .if2 .left)
-    (found-none (bad .result) (bad .ensures) (c .before .if3 .left) clear)))) (c .sum-from .ensures)
+    (found-none (bad .result) (bad .ensures) (c .if3 .left) clear)))) (c .before .before .sum-from .ensures)
 
 pub add-up-spec : {M : Type 1} → statement M
 add-up-spec =
@@ -55,7 +55,7 @@ add-up-spec =
     returns
     offset-ok-requires
     returns-2
-    first-not-finite-requires
-    returns-3
     sum-from-requires
+    first-outside-requires
+    returns-3
     returns-4)

@@ -1,60 +1,68 @@
-use Prim.Native.Nat.{_-_, _≤_}
-use mathlib.Core.Path.{_≡_, refl, _∙_}
-use lib.ListN.{length, drop}
-use Rattle.sum.specs.Sum.{sumFrom}
-use Rattle.sum.proofs.Fold.{sum-more, sum-end}
 use borrow.Author.Needs.{needs}
 use Rattle.sum.proofs.sum_from.Statement.{statement}
 use Rattle.sum.proofs.sum_from.Tie as tie
 
-abbrev Inv-loop : tie.InvT-loop
-Inv-loop op held src sum₀ i₀ sum i = (i ≤ length src) × (sumFrom op sum (drop i src) ≡ sumFrom op sum₀ src)
+enum-told : tie.Need-enum-told
+enum-told c = search needs
 
-abbrev μ-loop : tie.MeasureT-loop
-μ-loop op held src sum₀ i₀ sum i = length src - i
+sum-requires : tie.Need-sum-requires
+sum-requires c κs = search needs
 
-loop-holds : tie.Need-loop-holds Inv-loop μ-loop
-loop-holds c = (search needs, refl)
+enum-told-2 : tie.Need-enum-told-2
+enum-told-2 c = search needs
 
-mul-step : tie.Need-mul-step Inv-loop μ-loop
-mul-step c = search needs
+sum-square-requires : tie.Need-sum-square-requires
+sum-square-requires c κs = search needs
 
-shared-slice-read-step : tie.Need-shared-slice-read-step Inv-loop μ-loop
-shared-slice-read-step c = search needs
+enum-told-3 : tie.Need-enum-told-3
+enum-told-3 c = search needs
 
-step-requires : tie.Need-step-requires Inv-loop μ-loop
-step-requires c κs = search needs
+sum-abs-requires : tie.Need-sum-abs-requires
+sum-abs-requires c κs = search needs
 
-add-i : tie.Need-add-i Inv-loop μ-loop
-add-i c = search needs
+enum-known-op : tie.Need-enum-known-op
+enum-known-op c = search needs
 
-loop-less : tie.Need-loop-less Inv-loop μ-loop
-loop-less c = search needs
+sum-square-sub-requires : tie.Need-sum-square-sub-requires
+sum-square-sub-requires c κs = search needs
 
-loop-again : tie.Need-loop-again Inv-loop μ-loop
-loop-again c =
-    let l = c .before .before .before in (
-      search needs,
-      sum-more _ (l .before .before .args .src .now) (l .loop .i) (l .loop .sum) _ (c .before .before .loop-test .taken) (c .step .ensures)
-          ∙ l .loop .inv .1,
-    )
+enum-known-op-2 : tie.Need-enum-known-op-2
+enum-known-op-2 c = search needs
 
-returns : tie.Need-returns Inv-loop μ-loop
-returns c =
-    let l = c .before in
-    sum-end _ (l .before .before .args .src .now) (l .loop .i) (l .loop .sum) (c .loop-test .left) ∙ l .loop .inv .1
+sum-exp-sub-requires : tie.Need-sum-exp-sub-requires
+sum-exp-sub-requires c κs = search needs
+
+returns : tie.Need-returns
+returns c = rw (c .before .enum-told .given .1) (c .sum .ensures)
+
+returns-2 : tie.Need-returns-2
+returns-2 c = rw (c .before .enum-told2 .given .1) (c .sum-square .ensures)
+
+returns-3 : tie.Need-returns-3
+returns-3 c = rw (c .before .enum-told3 .given .1) (c .sum-abs .ensures)
+
+returns-4 : tie.Need-returns-4
+returns-4 c = rw (c .before .before .op .given .1) (c .sum-square-sub .ensures)
+
+returns-5 : tie.Need-returns-5
+returns-5 c = rw (c .before .before .op2 .given .1) (c .sum-exp-sub .ensures)
 
 pub sum-from-spec : {M : Type 1} → statement M
 sum-from-spec =
     tie.close
     (tie.spec
-    Inv-loop
-    μ-loop
-    loop-holds
-    mul-step
-    shared-slice-read-step
-    step-requires
-    add-i
-    loop-less
-    loop-again
-    returns)
+    enum-told
+    sum-requires
+    enum-told-2
+    sum-square-requires
+    enum-told-3
+    sum-abs-requires
+    enum-known-op
+    sum-square-sub-requires
+    enum-known-op-2
+    sum-exp-sub-requires
+    returns
+    returns-2
+    returns-3
+    returns-4
+    returns-5)
