@@ -59,10 +59,22 @@ pub struct Extremes {
     pub min_num: f32,
 }
 
-/// With `min` and `max` keeping the first operand on a tie.
+/// With `min` and `max` keeping the first operand on a tie, as the three single ones below.
 pub fn first_kept(xs: &[f32]) -> Extremes {
-    let (least, largest) = MinMax::new(xs).dispatch();
-    Extremes { least, largest, max_num: MaxNum::new(xs).dispatch(), min_num: MinNum::new(xs).dispatch() }
+    let (least, largest) = min_max(xs);
+    Extremes { least, largest, max_num: max_num(xs), min_num: min_num(xs) }
+}
+
+pub fn min_max(xs: &[f32]) -> (f32, f32) {
+    MinMax::new(xs).dispatch()
+}
+
+pub fn max_num(xs: &[f32]) -> f32 {
+    MaxNum::new(xs).dispatch()
+}
+
+pub fn min_num(xs: &[f32]) -> f32 {
+    MinNum::new(xs).dispatch()
 }
 
 /// With `min` and `max` keeping the second operand on a tie.
@@ -73,20 +85,32 @@ pub fn second_kept(xs: &[f32]) -> Extremes {
 
 pub fn softmax(flush: bool, xs: &[f32]) -> Vec<f32> {
     let mut out = vec![0.0; xs.len()];
-    Softmax::new(xs, unwritten(&mut out)).flush_nans_to_zero(flush).dispatch();
+    softmax_to(flush, xs, &mut out);
     out
+}
+
+pub fn softmax_to(flush: bool, xs: &[f32], out: &mut [f32]) {
+    Softmax::new(xs, unwritten(out)).flush_nans_to_zero(flush).dispatch();
 }
 
 pub fn softmax_in_place(flush: bool, xs: &[f32]) -> Vec<f32> {
     let mut out = xs.to_vec();
-    Softmax::new_mut(&mut out).flush_nans_to_zero(flush).dispatch();
+    softmax_on(flush, &mut out);
     out
+}
+
+pub fn softmax_on(flush: bool, data: &mut [f32]) {
+    Softmax::new_mut(data).flush_nans_to_zero(flush).dispatch();
 }
 
 pub fn normalize(by: By, xs: &[f32]) -> Vec<f32> {
     let mut out = vec![0.0; xs.len()];
-    Normalize::new(xs, unwritten(&mut out), options(by)).dispatch();
+    normalize_to(by, xs, &mut out);
     out
+}
+
+pub fn normalize_to(by: By, xs: &[f32], out: &mut [f32]) {
+    Normalize::new(xs, unwritten(out), options(by)).dispatch();
 }
 
 pub fn normalize_in_place(by: By, xs: &[f32]) -> Vec<f32> {
@@ -107,6 +131,10 @@ fn options(by: By) -> NormalizeOptions {
 
 pub fn quantize(inv_scale: f32, zero_point: u8, xs: &[f32]) -> Vec<u8> {
     let mut out = vec![0; xs.len()];
-    Quantize::new(xs, unwritten(&mut out), inv_scale, zero_point).dispatch();
+    quantize_to(inv_scale, zero_point, xs, &mut out);
     out
+}
+
+pub fn quantize_to(inv_scale: f32, zero_point: u8, xs: &[f32], out: &mut [u8]) {
+    Quantize::new(xs, unwritten(out), inv_scale, zero_point).dispatch();
 }
