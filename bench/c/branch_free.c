@@ -1,6 +1,5 @@
 /* Document 01's steps in C without a branch inside a loop, so that the compiler can use lanes. One rounding for each operation: -ffp-contract=off. */
 #include "job.h"
-#include <string.h>
 
 #define IN static inline __attribute__((always_inline))
 
@@ -40,7 +39,7 @@ IN float exp_of(float x) {
     const float p = exp_parts(x, &k);
     const uint32_t a = (int32_t)k > 0 ? 0u : 0x83000000u;
     float y = (p * from(a + 0x7f000000u)) * from((k << 23) - a);
-    y = x >= 104.0f ? from(0x7f800000u) : y;
+    y = x >= 104.0f ? INFINITY : y;
     return x <= -104.0f ? 0.0f : y;
 }
 /* p times 2^k with one multiplication; k from -126 to 127. */
@@ -117,25 +116,12 @@ MAP(approx_gelu, approx_gelu_of(x))
 MAP(sin, sine_of(turned(x)))
 MAP(cos, sine_of(1.5707964f - turned(x)))
 
-/* An ordered fold from START over src, h the held value. */
-#define FOLD(name, START, E)                           \
-    static void name##_loop(const struct job *j) {     \
-        const float *restrict s = j->src;              \
-        const float offset = j->offset;                \
-        (void)offset;                                  \
-        float h = (START);                             \
-        for (size_t i = 0, n = j->n; i < n; i++) {     \
-            const float x = s[i];                      \
-            h = (E);                                   \
-        }                                              \
-        *(float *)j->dst = h;                          \
-    }
 FOLD(sum, 0.0f, h + x)
 FOLD(sum_square, 0.0f, x * x + h)
 FOLD(sum_abs, 0.0f, h + size(x))
 FOLD(sum_square_sub, 0.0f, (x - offset) * (x - offset) + h)
-FOLD(max_num, from(0xff800000u), larger(h, x))
-FOLD(min_num, from(0x7f800000u), lesser(h, x))
+FOLD(max_num, -INFINITY, larger(h, x))
+FOLD(min_num, INFINITY, lesser(h, x))
 
 /* The exponentials in runs, so that only the additions are in order. */
 static void sum_exp_sub_loop(const struct job *j) {
@@ -149,30 +135,7 @@ static void sum_exp_sub_loop(const struct job *j) {
     *(float *)j->dst = h;
 }
 
-static void min_max_loop(const struct job *j) {
-    float least = from(0x7f800000u), largest = from(0xff800000u), *d = j->dst;
-    for (size_t i = 0; i < j->n; i++) {
-        least = lesser(least, j->src[i]);
-        largest = larger(largest, j->src[i]);
-    }
-    d[0] = least;
-    d[1] = largest;
-}
-
-static void meter_feed_loop(const struct job *j) {
-    float sum = 0.0f, least = from(0x7f800000u), largest = from(0xff800000u), *d = j->dst;
-    const uint32_t count = (uint32_t)j->n;
-    for (size_t i = 0; i < j->n; i++) {
-        const float x = j->src[i];
-        sum = x * x + sum;
-        least = lesser(least, x);
-        largest = larger(largest, x);
-    }
-    memcpy(d, &count, 4);
-    d[1] = sum;
-    d[2] = least;
-    d[3] = largest;
-}
+EXTREMES(lesser, larger)
 
 /* In any order: only the sign of a zero can tell, and that reaches no weight. */
 IN float largest_of(const float *s, size_t n) {
@@ -208,22 +171,7 @@ static void softmax_in_place_loop(const struct job *j) {
     weigh(d, j->n);
 }
 
-/* u and b are the scale and the bias of an element. */
-#define NORMALIZE(name, E)                                                                                 \
-    IN void name##_over(float pre, float scale, float bias, const float *restrict u,                       \
-                        const float *restrict b, const float *restrict s, float *restrict d, size_t n) {   \
-        (void)u, (void)b, (void)bias;                                                                      \
-        for (size_t i = 0; i < n; i++) {                                                                   \
-            const float y = s[i] - pre;                                                                    \
-            d[i] = (E);                                                                                    \
-        }                                                                                                  \
-    }                                                                                                      \
-    static void name##_loop(const struct job *j) {                                                         \
-        name##_over(j->pre_scale_bias, j->scale, j->bias, j->scales, j->biases, j->src, j->dst, j->n);     \
-    }
-NORMALIZE(normalize, y * scale + bias)
-NORMALIZE(normalize_scale, y * (u[i] * scale))
-NORMALIZE(normalize_both, y * (u[i] * scale) + (b[i] + bias))
+NORMALIZE_ALL
 
 /* Held to 1024 in size before it is rounded, so that no cast can wrap. */
 IN void codes(float by, float zero, const float *restrict s, uint8_t *restrict d, size_t n) {
@@ -236,7 +184,7 @@ IN void codes(float by, float zero, const float *restrict s, uint8_t *restrict d
 static void quantize_loop(const struct job *j) { codes(j->inv_scale, j->zero_point, j->src, j->dst, j->n); }
 
 const struct loop branch_free[] = {
-    ROW(exp) ROW(reduced_range_exp) ROW(sigmoid) ROW(silu) ROW(swish) ROW(elu) ROW(tanh) ROW(erf) ROW(gelu) ROW(approx_gelu) ROW(sin) ROW(cos)
-    ROW(sum) ROW(sum_square) ROW(sum_abs) ROW(sum_square_sub) ROW(sum_exp_sub) ROW(min_max) ROW(max_num) ROW(min_num)
+    ROW(exp) ROW(reduced_range_exp) ROW(sigmoid) ROW(silu) ROW(swish) ROW(elu) ROW(tanh) ROW(erf) ROW(gelu) ROW(approx_gelu)
+    ROW(sin) ROW(cos) ROW(sum) ROW(sum_square) ROW(sum_abs) ROW(sum_square_sub) ROW(sum_exp_sub) ROW(min_max) ROW(max_num) ROW(min_num)
     ROW(softmax) ROW(softmax_in_place) ROW(normalize) ROW(normalize_scale) ROW(normalize_both) ROW(quantize) ROW(meter_feed)
     {0, 0}};

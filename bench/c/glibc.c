@@ -1,7 +1,5 @@
-/* The same kernels as plain loops over the C library's functions: other bits, no domain looked at. */
+/* The same kernels as plain loops, over the C library's functions where it has them: other bits. */
 #include "job.h"
-#include <math.h>
-#include <string.h>
 
 MAP(exp, expf(x))
 MAP(sigmoid, 1.0f / (1.0f + expf(-x)))
@@ -15,11 +13,15 @@ MAP(approx_gelu, 0.5f * x * (1.0f + tanhf(0.79788456f * (x + 0.044715f * x * x *
 MAP(sin, sinf(x))
 MAP(cos, cosf(x))
 
-static void sum_exp_sub_loop(const struct job *j) {
-    float h = 0.0f;
-    for (size_t i = 0; i < j->n; i++) h += expf(j->src[i] - j->offset);
-    *(float *)j->dst = h;
-}
+FOLD(sum, 0.0f, h + x)
+FOLD(sum_square, 0.0f, h + x * x)
+FOLD(sum_abs, 0.0f, h + fabsf(x))
+FOLD(sum_square_sub, 0.0f, h + (x - offset) * (x - offset))
+FOLD(sum_exp_sub, 0.0f, h + expf(x - offset))
+FOLD(max_num, -INFINITY, fmaxf(h, x))
+FOLD(min_num, INFINITY, fminf(h, x))
+EXTREMES(fminf, fmaxf)
+NORMALIZE_ALL
 
 static void weights(float *d, const float *s, size_t n) {
     float m = -INFINITY, h = 0.0f;
@@ -42,8 +44,8 @@ static void quantize_loop(const struct job *j) {
     }
 }
 
-/* reduced_range_exp is expf too; the rest calls nothing of the C library. */
 const struct loop glibc[] = {
-    ROW(exp) {"reduced_range_exp", exp_loop}, ROW(sigmoid) ROW(silu) ROW(swish) ROW(elu) ROW(tanh) ROW(erf) ROW(gelu) ROW(approx_gelu) ROW(sin) ROW(cos)
-    ROW(sum_exp_sub) ROW(softmax) ROW(softmax_in_place) ROW(quantize)
+    ROW(exp) {"reduced_range_exp", exp_loop}, ROW(sigmoid) ROW(silu) ROW(swish) ROW(elu) ROW(tanh) ROW(erf) ROW(gelu) ROW(approx_gelu)
+    ROW(sin) ROW(cos) ROW(sum) ROW(sum_square) ROW(sum_abs) ROW(sum_square_sub) ROW(sum_exp_sub) ROW(min_max) ROW(max_num) ROW(min_num)
+    ROW(softmax) ROW(softmax_in_place) ROW(normalize) ROW(normalize_scale) ROW(normalize_both) ROW(quantize) ROW(meter_feed)
     {0, 0}};

@@ -25,16 +25,16 @@ pub struct Kernel {
 }
 
 const USUAL: (f32, f32) = (-6.0, 6.0);
-const LIMIT: f64 = 1.0;
+const LIMIT: Option<f64> = Some(1.0);
 /// Of ordered sums and extremes, where one addition or comparison waits for the one before.
-const ORDERED_LIMIT: f64 = 1.1;
-const SPLIT_LIMIT: f64 = 1.5;
-/// The goal's kernels, ours by the branch-free loop.
+const ORDERED_LIMIT: Option<f64> = Some(1.1);
+const SPLIT_LIMIT: Option<f64> = Some(1.5);
+/// Ours by the branch-free loop, for the kernels below.
 pub const GOAL: f64 = 1.6;
 const GOALS: [&str; 7] = ["exp", "sigmoid", "silu", "tanh", "erf", "gelu", "softmax"];
 
-fn kernel(name: &'static str, range: (f32, f32), limit: f64, ours: Call, rust: Call) -> Kernel {
-    Kernel { name, ours, rust, range, bias: 0.5, only: None, limit: Some(limit), goal: GOALS.contains(&name) }
+fn kernel(name: &'static str, range: (f32, f32), limit: Option<f64>, ours: Call, rust: Call) -> Kernel {
+    Kernel { name, ours, rust, range, bias: 0.5, only: None, limit, goal: GOALS.contains(&name) }
 }
 
 macro_rules! operator {
@@ -79,14 +79,16 @@ fn operators() -> Vec<Kernel> {
 
 macro_rules! fold {
     ($name:literal, $ours:ident, $text:expr) => {
-        kernel($name, USUAL, ORDERED_LIMIT, |j| _ = unsafe { $ours(j.src, j.n, j.dst.cast()) }, |j| {
-            j.out(1)[0] = $text(j.src())
-        })
+        kernel($name, USUAL, ORDERED_LIMIT, |j| _ = unsafe { $ours(j.src, j.n, j.dst.cast()) }, |j| j.out(1)[0] = $text(j.src()))
     };
     ($name:literal, $ours:ident offset, $kind:expr) => {
-        kernel($name, USUAL, ORDERED_LIMIT, |j| _ = unsafe { $ours(j.offset, j.src, j.n, j.dst.cast()) }, |j| {
-            j.out(1)[0] = text::sum($kind(j.offset), j.src())
-        })
+        kernel(
+            $name,
+            USUAL,
+            ORDERED_LIMIT,
+            |j| _ = unsafe { $ours(j.offset, j.src, j.n, j.dst.cast()) },
+            |j| j.out(1)[0] = text::sum($kind(j.offset), j.src()),
+        )
     };
 }
 
@@ -127,7 +129,21 @@ fn our_feeding(j: &Job) {
 fn our_normalize(j: &Job, has_scale: bool, has_bias: bool) {
     let (ns, nb) = (j.n * has_scale as usize, j.n * has_bias as usize);
     _ = unsafe {
-        mst_normalize(j.pre_scale_bias, j.scale, j.bias, has_scale, j.scales, ns, has_bias, j.biases, nb, j.src, j.n, j.dst.cast(), j.n)
+        mst_normalize(
+            j.pre_scale_bias,
+            j.scale,
+            j.bias,
+            has_scale,
+            j.scales,
+            ns,
+            has_bias,
+            j.biases,
+            nb,
+            j.src,
+            j.n,
+            j.dst.cast(),
+            j.n,
+        )
     };
 }
 
@@ -181,11 +197,11 @@ fn others() -> Vec<Kernel> {
 fn split(name: &'static str, n: usize, limit: Option<f64>) -> Kernel {
     let ours: Call = |j| _ = unsafe { mst_split(j.src, j.n, j.dst.cast(), j.n) };
     let rust: Call = |j| _ = reference::split::split(j.src(), j.out(j.n));
-    Kernel { only: Some(n), limit, ..kernel(name, (-5.0, 5.0), SPLIT_LIMIT, ours, rust) }
+    Kernel { only: Some(n), ..kernel(name, (-5.0, 5.0), limit, ours, rust) }
 }
 
 fn table(name: &'static str, ours: Call, rust: Call) -> Kernel {
-    Kernel { only: Some(BANDS * ROWS), limit: None, ..kernel(name, USUAL, LIMIT, ours, rust) }
+    Kernel { only: Some(BANDS * ROWS), ..kernel(name, USUAL, None, ours, rust) }
 }
 
 fn our_reading(j: &Job) {
@@ -193,12 +209,12 @@ fn our_reading(j: &Job) {
     _ = unsafe { mst_table_read(j.bytes, table_bytes(), j.dst.cast(), gains, &mut bands, &mut rows) };
 }
 
-/// What the Rust side of these is: the reference.
+/// Against the reference, which alone has them.
 fn calls() -> Vec<Kernel> {
     const SIZES: (u32, u32) = (BANDS as u32, ROWS as u32);
     vec![
         split("split of 3", 3, None),
-        split("split of 16", 16, Some(SPLIT_LIMIT)),
+        split("split of 16", 16, SPLIT_LIMIT),
         table(
             "table write",
             |j| _ = unsafe { mst_table_write(SIZES.0, SIZES.1, j.gains, j.gains().len(), j.dst, table_bytes()) },

@@ -8,8 +8,9 @@ mod library;
 mod report;
 mod timing;
 
-use contender::{agree, of};
-use job::Buffers;
+use contender::{Contender, agree, of};
+use job::{Buffers, Job};
+use kernels::Kernel;
 use report::Line;
 use std::env::consts::ARCH;
 
@@ -18,21 +19,28 @@ const SIZES: [usize; 4] = [16, 64, 1024, 16_384];
 fn main() {
     let machine = std::env::args().nth(1).unwrap_or(ARCH.to_string());
     let kernels = kernels::all();
-    let mut buffers = Buffers::new();
+    each(&kernels, |kernel, contenders, job| {
+        if let Err(who) = agree(contenders, job) {
+            eprintln!("bench: {} at n = {}: other bits from {who:?} than from ours, so nothing is timed", kernel.name, job.n);
+            std::process::exit(1);
+        }
+    });
     let mut lines = vec![];
-    for kernel in &kernels {
-        let contenders = of(kernel);
+    each(&kernels, |kernel, contenders, job| {
+        let times = timing::medians(contenders, job);
+        lines.push(Line { kernel, n: job.n, times: contenders.iter().map(|c| c.who).zip(times).collect() });
+    });
+    report::print(&machine, &lines, &SIZES);
+}
+
+/// Every kernel at each of its sizes.
+fn each<'a>(kernels: &'a [Kernel], mut visit: impl FnMut(&'a Kernel, &[Contender], &Job)) {
+    let mut buffers = Buffers::new();
+    for kernel in kernels {
         buffers.draw(kernel.range.0, kernel.range.1);
         let sizes = kernel.only.map_or(SIZES.to_vec(), |n| vec![n]);
         for n in sizes {
-            let job = buffers.job(n, kernel.bias);
-            if let Err(who) = agree(&contenders, &job) {
-                eprintln!("bench: {} at n = {n}: other bits from {who:?} than from ours, so nothing is timed", kernel.name);
-                std::process::exit(1);
-            }
-            let times = timing::medians(&contenders, &job);
-            lines.push(Line { kernel, n, times: contenders.iter().map(|c| c.who).zip(times).collect() });
+            visit(kernel, &of(kernel), &buffers.job(n, kernel.bias));
         }
     }
-    report::print(&machine, &lines, &SIZES);
 }

@@ -2,6 +2,7 @@
 
 use crate::contender::Who;
 use crate::kernels::{GOAL, Kernel};
+use crate::timing::{SAMPLE_NS, SAMPLES};
 use std::env::consts::ARCH;
 
 /// Where the ratios are asked.
@@ -29,7 +30,13 @@ impl Line<'_> {
 
 /// Three digits.
 fn number(x: f64) -> String {
-    let digits = if x >= 99.95 { 0 } else if x >= 9.995 { 1 } else { 2 };
+    let digits = if x >= 99.95 {
+        0
+    } else if x >= 9.995 {
+        1
+    } else {
+        2
+    };
     format!("{x:.digits$}")
 }
 
@@ -39,7 +46,9 @@ fn table(rows: &[Vec<String>]) {
     let columns: Vec<(bool, usize)> = (0..rows[0].len()).map(column).collect();
     let line = |cells: Vec<String>| println!("|{}|", cells.join("|"));
     for (i, row) in rows.iter().enumerate() {
-        let cell = |(s, &(text, w)): (&String, &(bool, usize))| if text { format!(" {s:<w$} ") } else { format!(" {s:>w$} ") };
+        let cell = |(s, &(text, w)): (&String, &(bool, usize))| {
+            if text { format!(" {s:<w$} ") } else { format!(" {s:>w$} ") }
+        };
         line(row.iter().zip(&columns).map(cell).collect());
         if i == 0 {
             let rule = |&(text, w): &(bool, usize)| format!("{}{}", "-".repeat(w + 1), if text { "-" } else { ":" });
@@ -67,7 +76,9 @@ fn times(lines: &[&Line], unit: usize, others: &[(Who, &str)]) {
 fn verdicts(lines: &[Line], who: Who, limit: impl Fn(&Kernel) -> Option<f64>) {
     let mut rows = vec![["kernel", "ratio", "at most", ""].map(String::from).to_vec()];
     for line in lines.iter().filter(|l| l.asked()) {
-        let (Some(limit), Some(ratio)) = (limit(line.kernel), line.ratio(who)) else { continue };
+        let (Some(limit), Some(ratio)) = (limit(line.kernel), line.ratio(who)) else {
+            continue;
+        };
         let over = 100.0 * (ratio / limit - 1.0);
         let verdict = if ratio <= limit { "holds".to_string() } else { format!("does not hold, by {} %", number(over)) };
         rows.push(vec![line.kernel.name.to_string(), number(ratio), number(limit), verdict]);
@@ -77,17 +88,24 @@ fn verdicts(lines: &[Line], who: Who, limit: impl Fn(&Kernel) -> Option<f64>) {
 
 /// `machine` is the processor's name as `uname -m` gives it.
 fn print_about(machine: &str) {
+    let ms = SAMPLE_NS / 1e6;
+    println!(
+        "A time is the median of {SAMPLES} samples of {ms} ms of the thread's processor time, the contenders taking turns.\n"
+    );
     if ARCH != machine {
         println!("Built for {ARCH} and run on {machine} by an emulator: the times say nothing.\n");
     }
     if ARCH != "x86_64" {
-        println!("The library is the proved module compiled for {ARCH}, not the archive that `rt staticlib` writes. The ratios below are asked on x86-64.\n");
+        println!(
+            "The library is the proved module compiled for {ARCH}, not the archive that `rt staticlib` writes. The ratios below are asked on x86-64.\n"
+        );
     }
 }
 
 pub fn print(machine: &str, lines: &[Line], sizes: &[usize]) {
     print_about(machine);
-    let mut others = vec![(Who::Rust, "Rust text"), (Who::BranchFree, "branch-free C"), (Who::Glibc, "glibc"), (Who::Sleef, "SLEEF")];
+    let mut others =
+        vec![(Who::Rust, "Rust text"), (Who::BranchFree, "branch-free C"), (Who::Glibc, "glibc"), (Who::Sleef, "SLEEF")];
     others.retain(|(who, _)| lines.iter().any(|l| l.time(*who).is_some()));
     for &n in sizes {
         println!("## n = {n}, ns an element\n");

@@ -3,8 +3,8 @@
 use crate::contender::Contender;
 use crate::job::Job;
 
-const SAMPLES: usize = 31;
-const SAMPLE_NS: f64 = 2.5e6;
+pub const SAMPLES: usize = 31;
+pub const SAMPLE_NS: f64 = 2.5e6;
 
 #[repr(C)]
 struct Timespec {
