@@ -4,3 +4,4 @@ pub mod NoNan
 pub mod Cases
 pub mod Determined
 pub mod Place
+pub mod Shown

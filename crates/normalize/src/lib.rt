@@ -1,10 +1,11 @@
 // normalize.rs: output[i] = (input[i] - pre_scale_bias) * scale * element_scale[i] + bias + element_bias[i].
 // A per-element slice stands beside a yes or no; where it is absent, nothing of it is looked at.
 ghost use mathlib.Core.Path.{_≡_};
-ghost use mathlib.Core.Bool.{true};
-ghost use Prim.Native.Nat.{_<_};
+ghost use mathlib.Core.Bool.{true, false};
+ghost use Prim.Native.Nat.{ℕ, _<_};
 ghost use lib.ListN.{length};
 ghost use lib.Ieee.{isNan};
+ghost use lib.Ieee.Scale.{finite};
 ghost use Rattle.answer.specs.Answer.{toldOf, judged};
 ghost use Rattle.normalize.specs.Normal.{arm3, normOf, pickAt, resultAt, results};
 ghost use Rattle.normalize.specs.Normal.{unfitOf, settingsOk, finiteIn, finiteAll, firstBad, firstNan, tests, Fitted};
@@ -141,6 +142,22 @@ fn first_nan(st: Settings, hs: bool, es: &[f32], hb: bool, eb: &[f32], src: &[f3
     i
 }
 
+// A look at all results with no early end, so that it runs in lanes. A finite one shows that all that went into it is finite.
+fn any_not_finite(st: Settings, hs: bool, es: &[f32], hb: bool, eb: &[f32], src: &[f32]) -> bool
+    requires { ⌜ Fitted hs (now es) hb (now eb) (length (now src)) ⌝ }
+    ensures { λ r.
+        ⌜ (r ≡ false
+        → (i : ℕ) → i < length (now (src .entry)) → finite (resultAt st hs (now (es .entry)) hb (now (eb .entry)) (now (src .entry)) i) ≡ true) ⌝ }
+{
+    let mut bad = false;
+    let mut i = 0;
+    while i < src.len() {
+        bad = bad | !is_finite(result_at(st, hs, es, hb, eb, src, i));
+        i += 1;
+    }
+    bad
+}
+
 // Document 01's refusals 1, 2, 3, 4, 6, but for the length of what is written. It only reads.
 fn judge(st: Settings, hs: bool, es: &[f32], hb: bool, eb: &[f32], src: &[f32]) -> Answer
     ensures { λ r.
@@ -158,6 +175,9 @@ fn judge(st: Settings, hs: bool, es: &[f32], hb: bool, eb: &[f32], src: &[f32]) 
     }
     if !settings_ok(st) {
         return Answer::Refused(Refusal::NotFinite);
+    }
+    if !any_not_finite(st, hs, es, hb, eb, src) {
+        return Answer::Done;
     }
     let bad = first_bad(hs, es, hb, eb, src);
     if bad < n {

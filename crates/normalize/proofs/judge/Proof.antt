@@ -5,13 +5,15 @@ use mathlib.Core.List.{List}
 use Prim.Native.Nat.{ℕ}
 use lib.ListN.{length, drop}
 use borrow.Author.Needs.{needs}
-use borrow.Author.Tests.{lt-ltb, le-ltb}
+use borrow.Author.Tests.{lt-ltb, le-ltb, not-true}
 use Rattle.answer.specs.Answer.{Test}
 use Rattle.answer.specs.declared.Answer.{Answer}
 use Rattle.answer.specs.declared.Refusal.the-variants.{Domain, Result}
 use Rattle.answer.proofs.Chain.{Gives, clear, stop, skip, found, found-none, gives}
-use Rattle.normalize.specs.Normal.{tests, Fitted}
+use Rattle.lists.proofs.First.{first-end}
+use Rattle.normalize.specs.Normal.{tests, Fitted, firstBad, firstNan}
 use Rattle.normalize.proofs.Passing.{fit}
+use Rattle.normalize.proofs.Shown.{none-bad, none-nan}
 use Rattle.normalize.proofs.judge.Statement.{statement}
 use Rattle.normalize.proofs.judge.Tie as tie
 
@@ -36,8 +38,8 @@ past3 c g = past2 (c .before) (skip (le-ltb _ _ (c .if3 .left)) g)
 past4 : (c : tie.Else4) {a : Answer} → Past 4 (c .before .before .before .before .before .before .before .before .before .before) a
 past4 c g = past3 (c .before .before) (skip (ap not (sym (c .before .settings-ok .ensures)) ∙ c .if4 .left) g)
 
-past5 : (c : tie.Else5) {a : Answer} → Past 5 (c .before .before .before .before .before .before .before .before .before .before .before .before) a
-past5 c g = past4 (c .before .before) (found-none _ (c .before .first-bad .ensures) (c .if5 .left) g)
+past5 : (c : tie.Else6) {a : Answer} → Past 5 (c .before .before .before .before .before .before .before .before .before .before .before .before .before .before) a
+past5 c g = past4 (c .before .before .before .before) (found-none _ (c .before .first-bad .ensures) (c .if6 .left) g)
 
 -- past the second, the slices in use are as long as the data
 fitted : (c : tie.Else2)
@@ -71,20 +73,37 @@ settings-ok-requires c κs = search needs
 returns-4 : tie.Need-returns-4
 returns-4 c = gives (past3 (c .before .before) (stop (ap not (sym (c .before .settings-ok .ensures)) ∙ c .if4 .taken)))
 
-first-bad-requires : tie.Need-first-bad-requires
-first-bad-requires c κs = fitted (c .before .before .before)
+any-not-finite-requires : tie.Need-any-not-finite-requires
+any-not-finite-requires c κs = fitted (c .before .before .before)
 
 returns-5 : tie.Need-returns-5
-returns-5 c = gives (past4 (c .before .before) (found Domain _ (c .before .first-bad .ensures) (c .if5 .taken)))
+unfolding firstBad firstNan
+returns-5 c =
+    let x = c .before .before .before .before .before .before .before .before .before .before .before .before .args in
+    let s = now (x .src) in
+    let n = length s in
+    let shown = c .before .any-not-finite .ensures (not-true _ (c .if5 .taken)) in
+    let bad = none-bad (x .st) (x .hs) (now (x .es)) (x .hb) (now (x .eb)) s shown in
+    let nans = none-nan (x .st) (x .hs) (now (x .es)) (x .hb) (now (x .eb)) s shown in
+    gives
+    (past4 (c .before .before)
+    (found-none n (first-end _ n n (search needs) (search needs) bad) (search needs)
+    (found-none n (first-end _ n n (search needs) (search needs) nans) (search needs) clear)))
 
-first-nan-requires : tie.Need-first-nan-requires
-first-nan-requires c κs = fitted (c .before .before .before .before .before)
+first-bad-requires : tie.Need-first-bad-requires
+first-bad-requires c κs = fitted (c .before .before .before .before .before)
 
 returns-6 : tie.Need-returns-6
-returns-6 c = gives (past5 (c .before .before) (found Result _ (c .before .first-nan .ensures) (c .if6 .taken)))
+returns-6 c = gives (past4 (c .before .before .before .before) (found Domain _ (c .before .first-bad .ensures) (c .if6 .taken)))
+
+first-nan-requires : tie.Need-first-nan-requires
+first-nan-requires c κs = fitted (c .before .before .before .before .before .before .before)
 
 returns-7 : tie.Need-returns-7
-returns-7 c = gives (past5 (c .before .before) (found-none _ (c .before .first-nan .ensures) (c .if6 .left) clear))
+returns-7 c = gives (past5 (c .before .before) (found Result _ (c .before .first-nan .ensures) (c .if7 .taken)))
+
+returns-8 : tie.Need-returns-8
+returns-8 c = gives (past5 (c .before .before) (found-none _ (c .before .first-nan .ensures) (c .if7 .left) clear))
 
 pub judge-spec : {M : Type 1} → statement M
 judge-spec =
@@ -97,8 +116,10 @@ judge-spec =
     returns-3
     settings-ok-requires
     returns-4
-    first-bad-requires
+    any-not-finite-requires
     returns-5
-    first-nan-requires
+    first-bad-requires
     returns-6
-    returns-7)
+    first-nan-requires
+    returns-7
+    returns-8)
