@@ -1,6 +1,6 @@
 -- The first place that fails a test: to it, from the places that a search has passed, and back. Assumes nothing.
 use Prim.Native.Nat.{ℕ, zero, suc, _+_, _≤_, _<_}
-use mathlib.Core.Path.{_≡_, refl, sym, ap, _∙_}
+use mathlib.Core.Path.{_≡_, refl, sym, ap}
 use mathlib.Core.Bool.{Bool, true, false, cond, not, _||_, true≢false}
 use native.Mathlib.Omega.{arith}
 use borrow.Author.Count.{below-none, below-more}
@@ -74,13 +74,15 @@ Looked p bad i = bad ≡ false → Passed p i
 pub looked-none : (p : ℕ → Bool) {bad : Bool} → Looked p bad 0
 looked-none p e = below-none (λ k. p k ≡ true)
 
+-- a turn that tests for a failure, and one that tests for a pass
+pub looked-by : (p : ℕ → Bool) (bad fails : Bool) (i : ℕ) → Looked p bad i → not fails ≡ p i → Looked p (bad || fails) (i + 1)
+looked-by p true fails i l e h = absurd (true≢false h)
+looked-by p false true i l e h = absurd (true≢false h)
+looked-by p false false i l e h = below-more (λ k. p k ≡ true) i (l refl) (sym e)
+
 pub looked-more : (p : ℕ → Bool) (bad ok : Bool) (i : ℕ) → Looked p bad i → ok ≡ p i → Looked p (bad || not ok) (i + 1)
-looked-more p bad ok i l e h = below-more (λ k. p k ≡ true) i (l (both bad ok h .0)) (sym e ∙ both bad ok h .1)
-  where
-    both : (bad ok : Bool) → (bad || not ok) ≡ false → (bad ≡ false) × (ok ≡ true)
-    both true ok h = absurd (true≢false h)
-    both false true h = (refl, refl)
-    both false false h = absurd (true≢false h)
+looked-more p bad true i l e = looked-by p bad false i l e
+looked-more p bad false i l e = looked-by p bad true i l e
 
 pub looked-end : (p : ℕ → Bool) (bad : Bool) (n i : ℕ) → Looked p bad i → n ≤ i → Looked p bad n
 looked-end p bad n i l h e k m = l e k (omega arith)

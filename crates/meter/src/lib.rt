@@ -3,11 +3,9 @@ ghost use mathlib.Core.Path.{_≡_};
 ghost use Rattle.meter.specs.Meter.{soundMeter, newMeter, feedOf, fedTold};
 use answer::ELEMENT_LIMIT;
 use answer::Refusal;
-use floats::scan::first_not_finite;
-use min_max::largest_from;
-use min_max::least_from;
+use min_max::look;
 use sum::SumOp;
-use sum::sum_from;
+use sum::folded;
 
 // The most samples that a meter counts; refusal 2 is for more.
 pub const COUNT_LIMIT: u32 = 4294967295;
@@ -67,15 +65,17 @@ impl Meter {
         if !is_sound(self) {
             return Fed::Refused(Refusal::NotFinite);
         }
-        let bad = first_not_finite(src);
+        let squares = folded(SumOp::SumSquare, self.sum_squares, src);
+        let bad = squares.bad;
         if bad < src.len() {
             return Fed::Refused(Refusal::Domain(bad));
         }
+        let seen = look(self.least, self.largest, src);
         Fed::Next(Meter {
             count: count + samples,
-            sum_squares: sum_from(SumOp::SumSquare, self.sum_squares, src),
-            least: least_from(self.least, src),
-            largest: largest_from(self.largest, src),
+            sum_squares: squares.value,
+            least: seen.least,
+            largest: seen.largest,
         })
     }
 }

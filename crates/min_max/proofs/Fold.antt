@@ -3,7 +3,6 @@ use Prim.Native.Nat.{ℕ, _+_, _≤_, _<_}
 use mathlib.Core.Path.{_≡_, refl}
 use mathlib.Core.Bool.{Bool, true, false, not, cond}
 use mathlib.Core.List.{List, [], _++_, foldl-append}
-use mathlib.Core.Logic.{_⊎_, inl, inr}
 use lib.Dec.{T}
 use lib.Ieee.{Float, nan, isNan}
 use lib.ListN.{length, getD, drop}
@@ -11,13 +10,11 @@ use Rattle.lists.proofs.Fold.{fold-more, fold-end, fold-keeps}
 use Rattle.min_max.specs.MinMax.{keep, extremeFrom}
 
 module _ (beyond : Float → Float → Bool) where
-  -- a turn of the loop: the element is beyond the held value and is held from now on, or the held value stays
-  pub extreme-more : (s : List Float) (i : ℕ) (held next : Float) → i < length s
-      → ((beyond (getD s i nan) held ≡ true) × (next ≡ getD s i nan)) ⊎ ((beyond (getD s i nan) held ≡ false) × (next ≡ held))
+  -- a turn of the loop
+  pub extreme-more : (s : List Float) (i : ℕ) (held next : Float) → i < length s → next ≡ keep beyond held (getD s i nan)
       → extremeFrom beyond next (drop (i + 1) s) ≡ extremeFrom beyond held (drop i s)
   unfolding extremeFrom
-  extreme-more s i held next h (inl w) = fold-more (keep beyond) s nan i held next h (rw (w .0) (w .1))
-  extreme-more s i held next h (inr w) = fold-more (keep beyond) s nan i held next h (rw (w .0) (w .1))
+  extreme-more s i held next h e = fold-more (keep beyond) s nan i held next h e
 
   -- and its end
   pub extreme-end : (s : List Float) (i : ℕ) (held : Float) → length s ≤ i → held ≡ extremeFrom beyond held (drop i s)

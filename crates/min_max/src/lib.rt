@@ -1,11 +1,14 @@
 // min_max.rs of rten-vecmath over one slice: the extremes of floats that are no NaN, by ordered folds.
+ghost use mathlib.Core.Bool.{true, false};
 ghost use mathlib.Core.Path.{_≡_};
-ghost use Rattle.min_max.specs.MinMax.{leastFrom, largestFrom, firstNan, extremesAnswer};
+ghost use Prim.Native.Nat.{ℕ, _<_};
+ghost use lib.Ieee.{lt};
+ghost use lib.ListN.{length};
+ghost use Rattle.min_max.specs.MinMax.{keep, leastFrom, largestFrom, numberAt, firstNan};
 ghost use Rattle.min_max.specs.MinMax.{extremesTold, extremeTold, minMaxTold, maxNumTold, minNumTold};
 use answer::Answer;
 use answer::ELEMENT_LIMIT;
 use answer::Refusal;
-use answer::is_done;
 use floats::bits::infinity;
 
 pub struct Extremes {
@@ -19,6 +22,26 @@ pub struct Extreme {
     pub value: f32,
 }
 
+// What one pass over a slice sees.
+pub struct Seen {
+    pub least: f32,
+    pub largest: f32,
+    pub nan: bool,
+}
+
+// The next held value: x where it lies strictly beyond the held one.
+fn lower(held: f32, x: f32) -> f32
+    ensures { λ r. ⌜ r ≡ keep (λ y h. lt y h) held x ⌝ }
+{
+    if x < held { x } else { held }
+}
+
+fn higher(held: f32, x: f32) -> f32
+    ensures { λ r. ⌜ r ≡ keep (λ y h. lt h y) held x ⌝ }
+{
+    if x > held { x } else { held }
+}
+
 // The held value or the least element, the first of equal ones. For the crates above.
 pub fn least_from(held: f32, src: &[f32]) -> f32
     ensures { λ r. ⌜ r ≡ leastFrom held (now (src .entry)) ⌝ }
@@ -26,10 +49,7 @@ pub fn least_from(held: f32, src: &[f32]) -> f32
     let mut least = held;
     let mut i = 0;
     while i < src.len() {
-        let x = src[i];
-        if x < least {
-            least = x;
-        }
+        least = lower(least, src[i]);
         i += 1;
     }
     least
@@ -42,19 +62,44 @@ pub fn largest_from(held: f32, src: &[f32]) -> f32
     let mut largest = held;
     let mut i = 0;
     while i < src.len() {
-        let x = src[i];
-        if x > largest {
-            largest = x;
-        }
+        largest = higher(largest, src[i]);
         i += 1;
     }
     largest
 }
 
-// The place of the first NaN, or the length where there is none.
-fn first_nan(src: &[f32]) -> usize
+// Both extremes from held values on, and whether an element is a NaN, in one pass. For the crates above.
+pub fn look(least: f32, largest: f32, src: &[f32]) -> Seen
+    ensures low { λ r. ⌜ r .least ≡ leastFrom least (now (src .entry)) ⌝ }
+    ensures high { λ r. ⌜ r .largest ≡ largestFrom largest (now (src .entry)) ⌝ }
+    ensures numbers { λ r. ⌜ (r .nan ≡ false → (i : ℕ) → i < length (now (src .entry)) → numberAt (now (src .entry)) i ≡ true) ⌝ }
+{
+    let mut low = least;
+    let mut high = largest;
+    let mut nan = false;
+    let mut i = 0;
+    while i < src.len() {
+        let x = src[i];
+        low = lower(low, x);
+        high = higher(high, x);
+        nan = nan | (x != x);
+        i += 1;
+    }
+    Seen {
+        least: low,
+        largest: high,
+        nan,
+    }
+}
+
+// The place of the first NaN, or the length where there is none; `any` is what a pass has seen.
+fn first_nan(any: bool, src: &[f32]) -> usize
+    requires { ⌜ (any ≡ false → (i : ℕ) → i < length (now src) → numberAt (now src) i ≡ true) ⌝ }
     ensures { λ r. ⌜ r ≡ firstNan (now (src .entry)) ⌝ }
 {
+    if !any {
+        return src.len();
+    }
     let mut i = 0;
     while i < src.len() {
         let x = src[i];
@@ -66,62 +111,54 @@ fn first_nan(src: &[f32]) -> usize
     i
 }
 
-// Refusals 2 and 4, which the three calls share.
-fn judge(src: &[f32]) -> Answer
-    ensures { λ r. ⌜ r ≡ extremesAnswer (now (src .entry)) ⌝ }
-{
-    if src.len() > ELEMENT_LIMIT {
-        return Answer::Refused(Refusal::TooMany);
-    }
-    let bad = first_nan(src);
-    if bad < src.len() {
-        return Answer::Refused(Refusal::Domain(bad));
-    }
-    Answer::Done
-}
-
-// `MinMax`
+// `MinMax`; refusals 2 and 4, which the three calls share.
 pub fn min_max(src: &[f32]) -> Extremes
     ensures { λ r. ⌜ extremesTold r ≡ minMaxTold (now (src .entry)) ⌝ }
 {
-    let answer = judge(src);
-    if !is_done(answer) {
+    if src.len() > ELEMENT_LIMIT {
         return Extremes {
-            answer,
+            answer: Answer::Refused(Refusal::TooMany),
             least: 0.0,
             largest: 0.0,
         };
     }
     let top = infinity();
-    let least = least_from(top, src);
-    let largest = largest_from(-top, src);
+    let seen = look(top, -top, src);
+    let bad = first_nan(seen.nan, src);
+    if bad < src.len() {
+        return Extremes {
+            answer: Answer::Refused(Refusal::Domain(bad)),
+            least: 0.0,
+            largest: 0.0,
+        };
+    }
     Extremes {
-        answer,
-        least,
-        largest,
+        answer: Answer::Done,
+        least: seen.least,
+        largest: seen.largest,
     }
 }
 
-// `MaxNum`
+// `MaxNum`: the two folds of a pass run beside each other, so the one that isn't asked for costs nothing.
 pub fn max_num(src: &[f32]) -> Extreme
     ensures { λ r. ⌜ extremeTold r ≡ maxNumTold (now (src .entry)) ⌝ }
 {
-    let answer = judge(src);
-    if !is_done(answer) {
-        return Extreme { answer, value: 0.0 };
+    let both = min_max(src);
+    let answer = both.answer;
+    Extreme {
+        answer,
+        value: both.largest,
     }
-    let value = largest_from(-infinity(), src);
-    Extreme { answer, value }
 }
 
 // `MinNum`
 pub fn min_num(src: &[f32]) -> Extreme
     ensures { λ r. ⌜ extremeTold r ≡ minNumTold (now (src .entry)) ⌝ }
 {
-    let answer = judge(src);
-    if !is_done(answer) {
-        return Extreme { answer, value: 0.0 };
+    let both = min_max(src);
+    let answer = both.answer;
+    Extreme {
+        answer,
+        value: both.least,
     }
-    let value = least_from(infinity(), src);
-    Extreme { answer, value }
 }

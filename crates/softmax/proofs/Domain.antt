@@ -2,7 +2,7 @@
 use Prim.Native.Nat.{ℕ, _≤_, _<_}
 use mathlib.Core.Path.{_≡_, refl, sym, subst}
 use mathlib.Core.Logic.{_⊎_, inl, inr}
-use mathlib.Core.Bool.{Bool, true, false, not, _&&_, _||_, true≢false, false≢true}
+use mathlib.Core.Bool.{Bool, true, false, _&&_, false≢true}
 use mathlib.Core.List.{List}
 use native.Mathlib.Omega.{arith}
 use lib.Dec.{T, ltb}
@@ -40,12 +40,6 @@ in-domain nan h = absurd (false≢true h)
 in-domain (inf true) h = inr refl
 in-domain (inf false) h = absurd (false≢true h)
 in-domain (fin s m e) h = inl tt
-
--- a turn of the look: with the new element it still shows nothing outside
-pub none-yet : (bad ok : Bool) → (bad || not ok) ≡ false → (bad ≡ false) × (ok ≡ true)
-none-yet true ok h = absurd (true≢false h)
-none-yet false true h = (refl, refl)
-none-yet false false h = absurd (true≢false h)
 
 -- ---- a list that is all masked
 module _ (s : List Float) (i : ℕ) (p : Passed (λ k. isMasked (getD s k nan)) i) where

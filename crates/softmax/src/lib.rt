@@ -17,6 +17,8 @@ use consts::F32_MIN;
 use exp::reduced_range_exp;
 use floats::bits::infinity;
 use min_max::largest_from;
+use sum::SumOp;
+use sum::sum_from;
 
 fn is_masked(x: f32) -> bool
     ensures { λ r. ⌜ r ≡ isMasked x ⌝ }
@@ -124,13 +126,7 @@ fn exps_in_place(max: f32, buf: &mut [f32])
 fn sum(src: &[f32]) -> f32
     ensures { λ r. ⌜ r ≡ sumOf (now (src .entry)) ⌝ }
 {
-    let mut held = 0.0;
-    let mut i = 0;
-    while i < src.len() {
-        held += src[i];
-        i += 1;
-    }
-    held
+    sum_from(SumOp::Sum, 0.0, src)
 }
 
 // Every element times the reciprocal of the sum.

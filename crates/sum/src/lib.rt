@@ -1,7 +1,6 @@
 // sum.rs of rten-vecmath over one slice: five sums of finite floats, each an ordered fold that rounds every step once.
 ghost use mathlib.Core.Bool.{true};
 ghost use mathlib.Core.Path.{_≡_};
-ghost use Rattle.consts.specs.Consts.{zeroF};
 ghost use Rattle.floats.specs.Float.{firstNotFinite};
 ghost use Rattle.sum.specs.Sum.{sumFrom, offsetOk, Shows, totalTold, addUpTold};
 
@@ -20,6 +19,11 @@ pub enum SumOp {
     SumAbs,
     SumSquareSub(f32),
     SumExpSub(f32),
+}
+
+pub struct Looked {
+    pub value: f32,
+    pub bad: usize,
 }
 
 pub struct Total {
@@ -65,17 +69,23 @@ fn shows_finite(op: SumOp) -> bool
     }
 }
 
-// The first element that is not finite: no search where the sum itself shows that there is none.
-fn first_outside(op: SumOp, value: f32, src: &[f32]) -> usize
-    requires { ⌜ value ≡ sumFrom op zeroF (now src) ⌝ }
-    ensures { λ r. ⌜ r ≡ firstNotFinite (now (src .entry)) ⌝ }
+// The fold from a held sum on, and the first place that is not finite, or the length: no search where the sum itself shows
+// that there is none. For the crates above.
+pub fn folded(op: SumOp, held: f32, src: &[f32]) -> Looked
+    ensures value { λ r. ⌜ r .value ≡ sumFrom op held (now (src .entry)) ⌝ }
+    ensures bad { λ r. ⌜ r .bad ≡ firstNotFinite (now (src .entry)) ⌝ }
 {
+    let value = sum_from(op, held, src);
     if shows_finite(op) {
         if is_finite(value) {
-            return src.len();
+            return Looked {
+                value,
+                bad: src.len(),
+            };
         }
     }
-    first_not_finite(src)
+    let bad = first_not_finite(src);
+    Looked { value, bad }
 }
 
 // The sum that `op` names, from +0.
@@ -94,8 +104,8 @@ pub fn add_up(op: SumOp, src: &[f32]) -> Total
             value: 0.0,
         };
     }
-    let value = sum_from(op, 0.0, src);
-    let bad = first_outside(op, value, src);
+    let sum = folded(op, 0.0, src);
+    let bad = sum.bad;
     if bad < src.len() {
         return Total {
             answer: Answer::Refused(Refusal::Domain(bad)),
@@ -104,6 +114,6 @@ pub fn add_up(op: SumOp, src: &[f32]) -> Total
     }
     Total {
         answer: Answer::Done,
-        value,
+        value: sum.value,
     }
 }

@@ -1,25 +1,20 @@
 use Prim.Native.Nat.{_-_, _≤_}
-use mathlib.Core.Path.{_≡_, sym, _∙_}
-use native.Mathlib.Omega.{arith}
 use lib.Ieee.{nan}
 use lib.ListN.{length, getD}
-use mathlib.Core.Bool.{false}
-use borrow.Author.Count.{below-none, below-more}
-use Rattle.lists.proofs.First.{Passed}
+use Rattle.lists.proofs.First.{Looked, looked-none, looked-more, looked-end}
 use Rattle.softmax.specs.Softmax.{inDomain}
-use Rattle.softmax.proofs.Domain.{none-yet}
 use borrow.Author.Needs.{needs}
 use Rattle.softmax.proofs.any_outside.Statement.{statement}
 use Rattle.softmax.proofs.any_outside.Tie as tie
 
 abbrev Inv-loop : tie.InvT-loop
-Inv-loop src bad₀ i₀ bad i = (i ≤ length src) × (bad ≡ false → Passed (λ k. inDomain (getD src k nan)) i)
+Inv-loop src bad₀ i₀ bad i = (i ≤ length src) × Looked (λ k. inDomain (getD src k nan)) bad i
 
 abbrev μ-loop : tie.MeasureT-loop
 μ-loop src bad₀ i₀ bad i = length src - i
 
 loop-holds : tie.Need-loop-holds Inv-loop μ-loop
-loop-holds c = (search needs, λ e. below-none _)
+loop-holds c = (search needs, looked-none _)
 
 mul-in-domain : tie.Need-mul-in-domain Inv-loop μ-loop
 mul-in-domain c = search needs
@@ -39,11 +34,10 @@ loop-less c = search needs
 loop-again : tie.Need-loop-again Inv-loop μ-loop
 loop-again c =
     let at = c .before .before .before in
-    let split = none-yet (at .loop .bad) (c .in-domain .result) in
-    (search needs, λ e. below-more _ (at .loop .i) (at .loop .inv .1 (split e .0)) (sym (c .in-domain .ensures) ∙ split e .1))
+    (search needs, looked-more _ (at .loop .bad) (c .in-domain .result) (at .loop .i) (at .loop .inv .1) (c .in-domain .ensures))
 
 returns : tie.Need-returns Inv-loop μ-loop
-returns c = λ e i h. c .before .loop .inv .1 e i (omega arith)
+returns c = looked-end _ _ _ (c .before .loop .i) (c .before .loop .inv .1) (c .loop-test .left)
 
 pub any-outside-spec : {M : Type 1} → statement M
 any-outside-spec =

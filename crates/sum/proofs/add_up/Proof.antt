@@ -24,38 +24,27 @@ returns-2 c =
     tells-refused _ _ (Refused NotFinite) refl
     (gives (skip (le-ltb _ _ (l .before .if1 .left)) (stop (ap not (sym (l .offset-ok .ensures)) ∙ c .if2 .taken)))) refl
 
-sum-from-requires : tie.Need-sum-from-requires
-sum-from-requires c κs = search needs
-
-first-outside-requires : tie.Need-first-outside-requires
-first-outside-requires c κs = search needs
+folded-requires : tie.Need-folded-requires
+folded-requires c κs = search needs
 
 returns-3 : tie.Need-returns-3
 unfolding addUpAnswer
 returns-3 c =
-    let l = c .before .before .before in
-    let bad = c .before .first-outside in
-    tells-refused _ _ (Refused (Domain (bad .result))) refl
+    let l = c .before .before in
+    let sum = c .before .folded in
+    tells-refused _ _ (Refused (Domain (sum .result .bad))) refl
     (gives (skip (le-ltb _ _ (l .before .before .if1 .left)) (skip (ap not (sym (l .before .offset-ok .ensures)) ∙ l .if2 .left)
-    (found Domain (bad .result) (bad .ensures) (c .if3 .taken))))) refl
+    (found Domain (sum .result .bad) (sum .ensures .1) (c .if3 .taken))))) refl
 
 returns-4 : tie.Need-returns-4
 unfolding addUpAnswer
 returns-4 c =
-    let l = c .before .before .before in
-    let bad = c .before .first-outside in
+    let l = c .before .before in
+    let sum = c .before .folded in
     tells-done _ _ Done refl
     (gives (skip (le-ltb _ _ (l .before .before .if1 .left)) (skip (ap not (sym (l .before .offset-ok .ensures)) ∙ l .if2 .left)
-    (found-none (bad .result) (bad .ensures) (c .if3 .left) clear)))) (c .before .before .sum-from .ensures)
+    (found-none (sum .result .bad) (sum .ensures .1) (c .if3 .left) clear)))) (sum .ensures .0)
 
 pub add-up-spec : {M : Type 1} → statement M
 add-up-spec =
-    tie.close
-    (tie.spec
-    returns
-    offset-ok-requires
-    returns-2
-    sum-from-requires
-    first-outside-requires
-    returns-3
-    returns-4)
+    tie.close (tie.spec returns offset-ok-requires returns-2 folded-requires returns-3 returns-4)

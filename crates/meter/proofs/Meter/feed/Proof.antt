@@ -39,43 +39,37 @@ returns-3 c =
     (feed-refused (x .self) (x .src .now)
     (past-counts (x .self) (x .src .now) (l .before .if1 .left) room (stop (ap not (sym (c .before .is-sound .ensures)) ∙ c .if3 .taken))))
 
-first-not-finite-requires : tie.Need-first-not-finite-requires
-first-not-finite-requires c κs = search needs
+folded-requires : tie.Need-folded-requires
+folded-requires c κs = search needs
 
 returns-4 : tie.Need-returns-4
 returns-4 c =
     let l = c .before .before in
     let x = l .before .before .before .before .before .args in
     let room : x .self .count + length (x .src .now) ≤ countLimit = omega arith in
-    let bad = c .before .first-not-finite in
+    let sum = c .before .folded in
     ap fedTold
     (feed-refused (x .self) (x .src .now)
     (past-counts (x .self) (x .src .now) (l .before .before .before .if1 .left) room
-    (skip (ap not (sym (l .before .is-sound .ensures)) ∙ l .if3 .left) (found Domain (bad .result) (bad .ensures) (c .if4 .taken)))))
+    (skip (ap not (sym (l .before .is-sound .ensures)) ∙ l .if3 .left) (found Domain (sum .result .bad) (sum .ensures .1) (c .if4 .taken)))))
 
-add-t9 : tie.Need-add-t9
-add-t9 c = search needs
+look-requires : tie.Need-look-requires
+look-requires c κs = search needs
 
-sum-from-requires : tie.Need-sum-from-requires
-sum-from-requires c κs = search needs
-
-least-from-requires : tie.Need-least-from-requires
-least-from-requires c κs = search needs
-
-largest-from-requires : tie.Need-largest-from-requires
-largest-from-requires c κs = search needs
+add-t11 : tie.Need-add-t11
+add-t11 c = search needs
 
 returns-5 : tie.Need-returns-5
 returns-5 c =
-    let k = c .before .before .before in
+    let k = c .before in
     let l = k .before .before in
     let x = l .before .before .before .before .before .args in
     let room : x .self .count + length (x .src .now) ≤ countLimit = omega arith in
-    let bad = k .before .first-not-finite in
+    let sum = k .before .folded in
     ap fedTold
-    (feed-next (x .self) (x .src .now) (cc (c .largest-from .ensures, c .before .least-from .ensures, c .before .before .sum-from .ensures))
+    (feed-next (x .self) (x .src .now) (cc (c .look .ensures .1 .0, c .look .ensures .0, sum .ensures .0))
     (past-counts (x .self) (x .src .now) (l .before .before .before .if1 .left) room
-    (skip (ap not (sym (l .before .is-sound .ensures)) ∙ l .if3 .left) (found-none (bad .result) (bad .ensures) (k .if4 .left) clear))))
+    (skip (ap not (sym (l .before .is-sound .ensures)) ∙ l .if3 .left) (found-none (sum .result .bad) (sum .ensures .1) (k .if4 .left) clear))))
 
 pub feed-spec : {M : Type 1} → statement M
 feed-spec =
@@ -87,10 +81,8 @@ feed-spec =
     returns-2
     is-sound-requires
     returns-3
-    first-not-finite-requires
+    folded-requires
     returns-4
-    add-t9
-    sum-from-requires
-    least-from-requires
-    largest-from-requires
+    look-requires
+    add-t11
     returns-5)
