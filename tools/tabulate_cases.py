@@ -1,0 +1,107 @@
+#!/usr/bin/env python3
+"""Writes crates/tabulate_cases/data and stdout, and crates/tabulate/args, stdin and stdout: levels, and the table or the refusal for each.
+
+Rows are split and stored by the functions of split_cases.py and lister_cases.py, which follow document 01; the rest follows
+docs/DECISIONS.md, point 12. Run it at the top of the repository.
+"""
+import os
+import random
+import re
+import struct
+from fractions import Fraction
+
+from lister_cases import stored
+from split_cases import INF, MINUS_INF, NAN, nearest, split
+
+CASES, PROGRAM = "crates/tabulate_cases", "crates/tabulate"
+
+
+def tabulated(word, data):
+    """The bytes of the table, or the line of the refusal."""
+    bands = int(word) if re.fullmatch(b"[0-9]+", word) else 0
+    if not 1 <= bands <= 16:
+        return b"refused 7 0\n"
+    rows = -(-len(data) // (4 * bands))
+    if not 1 <= rows <= 1024:
+        return b"refused 7 0\n"
+    if len(data) % (4 * bands):
+        return b"refused 9 0\n"
+    gains, known = [], {}
+    for r in range(rows):
+        levels = struct.unpack_from(f"<{bands}I", data, 4 * bands * r)
+        if levels not in known:
+            known[levels] = split(levels, bands)
+        number, place, row = known[levels]
+        if number:
+            return f"refused {number} {r * bands + place}\n".encode()
+        gains.append(row)
+    return b"".join(stored(bands, gains))
+
+
+def packed(levels):
+    return struct.pack(f"<{len(levels)}I", *levels)
+
+
+def drawn(bands, rows, size):
+    """Rows of levels, each up to `size` beside 0; the same 40 rows come again and again."""
+    draw = random.Random(f"tabulate {bands} {rows}")
+    some = [[(draw.randrange(2) << 31) + nearest(Fraction(draw.randrange(1 << 24), 1 << 24) * size) for _ in range(bands)] for _ in range(40)]
+    return [level for r in range(rows) for level in some[r % 40]]
+
+
+# the example: equal bands, one far above the others, a band masked, a band masked with two equal ones, a mix of no pattern
+EXAMPLE = [0, 0, 0] + [0x41200000, 0, 0] + [0, MINUS_INF, 0x3F800000] + [MINUS_INF, 0xC0400000, 0xC0400000] + [0xBF8CCCCD, 0x40133333, 0xBE99999A]
+FULL = packed(drawn(16, 1024, 8))
+FILES = {
+    "three": packed(EXAMPLE),
+    "empty": b"",
+    "one": packed([0xC2C80000]),
+    "cut": packed(EXAMPLE[:6]) + b"\0\0\x80\x3f\0",
+    "rows_1025": packed(drawn(1, 1025, 100)),
+    "full": FULL,
+    "full_and_one": FULL + b"\0",
+    "full_and_row": FULL + FULL[:64],
+    "masked_bands": packed([MINUS_INF, 0, MINUS_INF, 0x3F000000, MINUS_INF] + [0x7F7FFFFF, 0xFF7FFFFF, 1, 0x80000000, MINUS_INF]),
+    "nan": packed(EXAMPLE[:6] + [0, NAN, INF]),
+    "nan_patterns": packed([0, 0, 0xFFFFFFFF, 0x7F800001]),
+    "infinity": packed(EXAMPLE + [0, 0, INF] + [NAN, 0, 0]),
+    "masked_row": packed(EXAMPLE + [MINUS_INF] * 3),
+    "masked_then_nan": packed([0, 0] + [MINUS_INF] * 2 + [NAN, NAN]),
+}
+WORDS = [b"", b"0", b"17", b"x", b"+3", b"-3", b"3 ", b"3/", b"3:", b"03", b"00000000000000000000003", b"18446744073709551619"]
+RUNS = [("three", word) for word in WORDS] + [
+    ("empty", b"3"),
+    ("one", b"1"),
+    ("cut", b"3"),
+    ("rows_1025", b"1"),
+    ("full", b"16"),
+    ("full", b"15"),
+    ("full_and_one", b"16"),
+    ("full_and_row", b"16"),
+    ("three", b"3"),
+    ("masked_bands", b"5"),
+    ("nan", b"3"),
+    ("nan_patterns", b"2"),
+    ("infinity", b"3"),
+    ("masked_row", b"3"),
+    ("masked_then_nan", b"2"),
+]
+
+
+def write(path, data):
+    with open(path, "wb") as f:
+        f.write(data)
+
+
+def main():
+    os.makedirs(f"{CASES}/data", exist_ok=True)
+    for name, data in FILES.items():
+        write(f"{CASES}/data/{name}", data)
+    write(f"{CASES}/stdout", b"".join(name.encode() + b" " + word + b"\n" + tabulated(word, FILES[name]) for name, word in RUNS))
+    write(f"{PROGRAM}/args", b"3\n")
+    write(f"{PROGRAM}/stdin", FILES["three"])
+    write(f"{PROGRAM}/stdout", tabulated(b"3", FILES["three"]))
+
+
+if __name__ == "__main__":
+    main()
