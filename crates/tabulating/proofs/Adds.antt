@@ -9,7 +9,7 @@ use native.Mathlib.Nat.{le-trans, eq-or-lt-of-le, le-of-suc-le-suc, mul-le-mul-r
 use native.Mathlib.Omega.{arith}
 use borrow.Author.Tests.{eq-eqb, le-leb}
 use lib.Dec.{T, lit≤}
-use lib.Ieee.{Float, nan, binary32, fits}
+use lib.Ieee.{nan, binary32, fits}
 use lib.Ieee.Bits.{ofBits-fits}
 use lib.ListN.{length, getD, length-append, List·getD-append}
 use lib.Seq.{getD-append-add}

@@ -17,13 +17,12 @@ use Rattle.answer.specs.declared.Answer.{Answer}
 use Rattle.answer.specs.Limits.{elementLimit}
 use Rattle.answer.proofs.Chain.{done-is}
 use Rattle.answer.proofs.Numbers.{told-one, zero-done}
-use Rattle.lists.specs.Index.{firstNot}
 use Rattle.lists.proofs.First.{Passed, first-at, first-end}
 use Rattle.split.specs.Parts.{gainsOf}
 use Rattle.split.specs.Split.{levelSteps, splitAnswer, splitTold, splitOut}
 use Rattle.split.proofs.Place.{split-place}
 use Rattle.tabulating.specs.Rows.{levelsFrom, rowLevels, rowAnswer, rowGains, gainsTo, refusedRow, rowTold, stopOf}
-use Rattle.tabulating.specs.Asked.{Row, Shaped}
+use Rattle.tabulating.specs.Asked.{Row}
 
 -- ---- a row
 pub row-is : {s : List ℕ} {from n : ℕ} {levels : List Float} {gains left : List ℕ} {a : Answer}
@@ -92,8 +91,8 @@ unfolding gainsTo
 going-none B N s g l = record { within = omega arith; from = omega arith; long = l; done = below-none _; held = refl }
 
 -- the gains are few
-pub shaped-small : {B N : ℕ} {s : List ℕ} → Shaped B N s → N * B ≤ 16384
-shaped-small p = mul-le-mul {n₂ = 1024} {m₂ = 16} (p .last) (p .most)
+pub few-gains : {B N : ℕ} → N ≤ 1024 → B ≤ 16 → N * B ≤ 16384
+few-gains n b = mul-le-mul {n₂ = 1024} {m₂ = 16} n b
 
 module _ {B N : ℕ} {s g : List ℕ} {row at : ℕ} (p : Going B N s g row at) (h : row < N) where
   pub going-inside : at + B ≤ N * B

@@ -1,6 +1,6 @@
 -- What is told of all rows, and what is left in the bytes of their table. Assumes nothing.
-use Prim.Native.Nat.{ℕ, _≤_, _<_}
-use mathlib.Core.Path.{_≡_, refl, sym, ap, ap₂, _∙_}
+use Prim.Native.Nat.{ℕ}
+use mathlib.Core.Path.{_≡_, sym, ap, ap₂, _∙_}
 use mathlib.Core.Bool.{Bool, true, false, cond}
 use mathlib.Core.List.{List}
 use native.Mathlib.Decide.{decLt}
@@ -15,7 +15,7 @@ use Rattle.table.specs.Limits.{form1}
 use Rattle.table.specs.Block.{tableBytes}
 use Rattle.table.specs.Write.{writeAnswer, writeOut}
 use Rattle.tabulating.specs.Rows.{rowAnswer, gainsTo, refusedRow, rowTold, stopOf}
-use Rattle.tabulating.specs.Tabulated.{sizeOf, tabulatedOf, storedTold, storedOut}
+use Rattle.tabulating.specs.Tabulated.{sizeOf, storedTold, storedOut}
 use Rattle.tabulating.specs.Asked.{Shaped, Split}
 use Rattle.tabulating.specs.declared.Stop.{Stop}
 use Rattle.tabulating.proofs.Rows.{AllDone, not-zero}

@@ -3,7 +3,6 @@ use Prim.Native.Nat.{ℕ, _*_, _≤_, _<_}
 use mathlib.Core.Path.{_≡_, refl, sym, ap, ap₂, subst, _∙_}
 use mathlib.Core.Bool.{Bool, true, false, not, _&&_, cond}
 use mathlib.Core.List.{List, _++_}
-use native.Mathlib.Nat.{mul-le-mul}
 use native.Mathlib.Omega.{arith}
 use borrow.Author.Tests.{lt-leb, lt-ltb, le-ltb, ltb-false}
 use lib.Dec.{eqb, leb, ltb}
@@ -35,9 +34,6 @@ pub room-enough : {n k : ℕ} (room : ℕ) → n ≡ k → 512 * n ≤ room → 
 room-enough {n} room e h = ap (λ (m : ℕ). ltb room (512 * m)) (sym e) ∙ le-ltb room (512 * n) h
 
 -- within the limits
-pub sizes-small : {B N : ℕ} → Sizes form1 B N → N * B ≤ 16384
-sizes-small z = mul-le-mul {n₂ = 1024} {m₂ = 16} (z .last) (z .most)
-
 pub shaped : {B N : ℕ} {s : List ℕ} → Sizes form1 B N → length s ≡ 4 * (N * B) → Shaped B N s
 shaped z l = record { some = z .some; most = z .most; first = z .rows; last = z .last; long = l }
 

@@ -25,9 +25,9 @@ pub struct Tabulated {
 }
 
 // The first row that the split refuses: its number and its place through the rows; 0 and 0 where none is.
-pub struct Stop {
-    pub number: u8,
-    pub place: usize,
+struct Stop {
+    number: u8,
+    place: usize,
 }
 
 fn wide(x: u8) -> usize

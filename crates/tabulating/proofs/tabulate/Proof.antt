@@ -12,7 +12,8 @@ use Rattle.table.specs.Limits.{form1}
 use Rattle.table.proofs.Sizes.{blocks-small}
 use Rattle.table.proofs.Tests.{Sizes, size-is, sizes-fit}
 use Rattle.tabulating.specs.Tabulated.{rowsIn}
-use Rattle.tabulating.proofs.Told.{room-short, room-enough, sizes-small, shaped, tells-refused, tells-none, tells-stored}
+use Rattle.tabulating.proofs.Rows.{few-gains}
+use Rattle.tabulating.proofs.Told.{room-short, room-enough, shaped, tells-refused, tells-none, tells-stored}
 use Rattle.tabulating.proofs.tabulate.Statement.{statement}
 use Rattle.tabulating.proofs.tabulate.Tie as tie
 
@@ -61,10 +62,10 @@ returns-2 c =
     (c .refused2 .ensures)
 
 mul-if3 : tie.Need-mul-if3
-mul-if3 c = omega (arith, sizes-small (sizes c))
+mul-if3 c = omega (arith, few-gains (sizes c .last) (sizes c .most))
 
 mul-if3-2 : tie.Need-mul-if3-2
-mul-if3-2 c = omega (arith, sizes-small (sizes c))
+mul-if3-2 c = omega (arith, few-gains (sizes c .last) (sizes c .most))
 
 refused-requires-3 : tie.Need-refused-requires-3
 refused-requires-3 c κs = search needs
@@ -107,13 +108,13 @@ array-borrow-prefix-gains : tie.Need-array-borrow-prefix-gains
 array-borrow-prefix-gains c =
     let at-if2 = c .before .before .before in
     let z = sizes at-if2 in
-    omega (arith, sizes-small z)
+    omega (arith, few-gains (z .last) (z .most))
 
 slice-aggregate-store : tie.Need-slice-aggregate-store
 slice-aggregate-store c =
     let at-if2 = c .before .before .before .before in
     let z = sizes at-if2 in
-    sym (length-take-le _ _ (omega (arith, sizes-small z)))
+    sym (length-take-le _ _ (omega (arith, few-gains (z .last) (z .most))))
 
 slice-relend-prefix-store : tie.Need-slice-relend-prefix-store
 slice-relend-prefix-store c = search needs
@@ -129,7 +130,7 @@ store-requires c κs =
     let z = sizes at-if2 in (
       shaped z (at-if3 .if3 .left),
       (
-        length-take-le _ _ (omega (arith, sizes-small z)),
+        length-take-le _ _ (omega (arith, few-gains (z .last) (z .most))),
         length-take-le _ _ (omega (arith, at-if4 .if4 .left)) ∙ ap (λ (m : ℕ). 512 * m) (at-if4 .before .blocks-of .ensures),
       ),
     )
