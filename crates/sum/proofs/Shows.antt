@@ -9,9 +9,13 @@ use Rattle.lists.proofs.First.{Passed}
 use Rattle.lists.proofs.Fold.{fold-shows}
 use Rattle.floats.specs.Float.{absOf, finiteAt}
 use Rattle.floats.proofs.Finite.{add-finite, sub-finite, mul-finite, abs-finite}
-use Rattle.sum.specs.Sum.{stepOf, sumFrom, Shows}
+use Rattle.sum.specs.Sum.{stepOf, sumFrom}
 use Rattle.sum.specs.declared.SumOp.{SumOp}
 use Rattle.sum.specs.declared.SumOp.the-variants.{Sum, SumSquare, SumAbs, SumSquareSub}
+
+-- a step that ends finite started from a finite sum and a finite element
+abbrev pub Shows : SumOp → Type 0
+Shows op = (sum x : Float) → finite (stepOf op sum x) ≡ true → (finite sum ≡ true) × (finite x ≡ true)
 
 pub shows-sum : Shows Sum
 shows-sum sum x h = add-finite binary32 sum x h

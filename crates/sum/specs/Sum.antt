@@ -1,7 +1,6 @@
 -- sum.rs over one lane: the five sums as ordered folds, each step rounded once in the Rust's order, and what the call tells. Definitions only.
 use Prim.Native.Nat.{ℕ}
 use mathlib.Core.Bool.{Bool, true, not}
-use mathlib.Core.Path.{_≡_}
 use mathlib.Core.List.{List, [], _∷_, foldl}
 use lib.Dec.{ltb}
 use lib.Ieee.{Float, binary32, add, sub}
@@ -29,10 +28,6 @@ stepOf (SumExpSub offset) sum x = add binary32 sum (expOf (sub binary32 x offset
 -- every element in order, from a held sum on
 unfoldable pub sumFrom : SumOp → Float → List Float → Float
 sumFrom op held s = foldl (stepOf op) held s
-
--- a step that ends finite started from a finite sum and a finite element
-abbrev pub Shows : SumOp → Type 0
-Shows op = (sum x : Float) → finite (stepOf op sum x) ≡ true → (finite sum ≡ true) × (finite x ≡ true)
 
 abbrev pub offsetOk : SumOp → Bool
 offsetOk Sum = true

@@ -1,8 +1,10 @@
 // sum.rs of rten-vecmath over one slice: five sums of finite floats, each an ordered fold that rounds every step once.
 ghost use mathlib.Core.Bool.{true};
 ghost use mathlib.Core.Path.{_≡_};
+ghost use lib.Ieee.{Float};
+ghost use lib.Ieee.Scale.{finite};
 ghost use Rattle.floats.specs.Float.{firstNotFinite};
-ghost use Rattle.sum.specs.Sum.{sumFrom, offsetOk, Shows, totalTold, addUpTold};
+ghost use Rattle.sum.specs.Sum.{stepOf, sumFrom, offsetOk, totalTold, addUpTold};
 
 mod folds;
 
@@ -58,7 +60,8 @@ fn offset_ok(op: SumOp) -> bool
 
 // A step that ends finite started from a finite sum and a finite element; but the exponential of minus infinity is finite.
 fn shows_finite(op: SumOp) -> bool
-    ensures { λ r. ⌜ (r ≡ true → Shows op) ⌝ }
+    ensures { λ r.
+        ⌜ (r ≡ true → (sum x : Float) → finite (stepOf op sum x) ≡ true → (finite sum ≡ true) × (finite x ≡ true)) ⌝ }
 {
     match op {
         SumOp::Sum => true,
