@@ -1,25 +1,21 @@
-use denote.Ref.{now}
-use Prim.Native.Nat.{_-_, _≤_}
-use mathlib.Core.Path.{_∙_}
+use Prim.Native.Nat.{_-_}
 use native.Mathlib.Omega.{arith}
-use lib.ListN.{length, getD}
+use lib.ListN.{length}
 use lib.Ieee.{nan}
-use Rattle.lists.specs.Index.{Filled}
-use Rattle.lists.proofs.Placed.{placed-none, placed-more, filled-all}
-use Rattle.lists.proofs.Tab.{tab-map}
+use Rattle.lists.proofs.Mapped.{Mapped, mapped-none, mapped-room, mapped-more, mapped-end}
 use Rattle.quantize.specs.Code.{codeOf}
 use borrow.Author.Needs.{needs}
 use Rattle.quantize.proofs.fill.Statement.{statement}
 use Rattle.quantize.proofs.fill.Tie as tie
 
 abbrev Inv-loop : tie.InvT-loop
-Inv-loop inv-scale zero-point src dst₀ i₀ dst i = (i ≤ length src) × Filled 0 dst₀ dst i (λ k. codeOf inv-scale zero-point (getD src k nan))
+Inv-loop inv-scale zero-point src dst₀ i₀ dst i = Mapped nan 0 (codeOf inv-scale zero-point) src dst₀ dst i
 
 abbrev μ-loop : tie.MeasureT-loop
 μ-loop inv-scale zero-point src dst₀ i₀ dst i = length src - i
 
 loop-holds : tie.Need-loop-holds Inv-loop μ-loop
-loop-holds c = (search needs, placed-none _ _ _)
+loop-holds c = mapped-none
 
 mul-code : tie.Need-mul-code Inv-loop μ-loop
 mul-code c = search needs
@@ -31,7 +27,10 @@ code-requires : tie.Need-code-requires Inv-loop μ-loop
 code-requires c κs = search needs
 
 slice-write-dst : tie.Need-slice-write-dst Inv-loop μ-loop
-slice-write-dst c = search needs
+slice-write-dst c =
+    let at = c .before .before .before in
+    let start = at .before .before .before in
+    mapped-room (start .pre) (at .loop .inv) (c .before .before .loop-test .taken)
 
 add-i : tie.Need-add-i Inv-loop μ-loop
 add-i c = search needs
@@ -42,18 +41,17 @@ loop-less c = search needs
 loop-again : tie.Need-loop-again Inv-loop μ-loop
 loop-again c =
     let at = c .before .before .before in
-    let v = c .code in
-    (search needs, placed-more _ (at .loop .dst) 0 (at .loop .i) _ (v .result) (at .loop .inv .1) (omega arith) (omega arith) (v .ensures))
+    let start = at .before .before .before in
+    mapped-more (start .pre) (at .loop .inv) (c .before .before .loop-test .taken) (c .code .ensures)
 
 same-length : tie.Need-same-length Inv-loop μ-loop
-same-length c = c .before .loop .inv .1 .long
+same-length c = c .before .loop .inv .filled .long
 
 returns : tie.Need-returns Inv-loop μ-loop
 returns c =
     let at = c .before in
-    let a = at .before .before .before .args in
-    filled-all _ _ _ (at .loop .i) _ (at .loop .inv .1) (omega arith) (c .loop-test .left)
-    ∙ tab-map (codeOf (a .inv-scale) (a .zero-point)) nan (now (a .src))
+    let start = at .before .before .before in
+    mapped-end (start .pre) (at .loop .inv) (c .loop-test .left)
 
 pub fill-spec : {M : Type 1} → statement M
 fill-spec =

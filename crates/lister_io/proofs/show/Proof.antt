@@ -3,8 +3,8 @@ use native.Mathlib.Omega.{arith}
 use lib.Seq.{length-take-le}
 use borrow.Author.Needs.{needs}
 use Rattle.digits.proofs.Written.{wrote-length}
-use Rattle.lister.proofs.run.Statement.{statement}
-use Rattle.lister.proofs.run.Tie as tie
+use Rattle.lister_io.proofs.show.Statement.{statement}
+use Rattle.lister_io.proofs.show.Tie as tie
 
 read-full-requires : tie.Need-read-full-requires
 read-full-requires c κs = search needs
@@ -53,8 +53,8 @@ same-length-3 c = search needs
 returns : tie.Need-returns
 returns c = search needs
 
-pub run-spec : {M : Type 1} → statement M
-run-spec =
+pub show-spec : {M : Type 1} → statement M
+show-spec =
     tie.close
     (tie.spec
     read-full-requires
