@@ -23,6 +23,7 @@ pub enum SumOp {
     SumExpSub(f32),
 }
 
+// A fold, and the first place of its elements that is not finite, or their number.
 pub struct Looked {
     pub value: f32,
     pub bad: usize,
@@ -72,8 +73,7 @@ fn shows_finite(op: SumOp) -> bool
     }
 }
 
-// The fold from a held sum on, and the first place that is not finite, or the length: no search where the sum itself shows
-// that there is none. For the crates above.
+// From a held sum on; no search where the sum itself shows that all are finite. For the crates above.
 pub fn folded(op: SumOp, held: f32, src: &[f32]) -> Looked
     ensures value { λ r. ⌜ r .value ≡ sumFrom op held (now (src .entry)) ⌝ }
     ensures bad { λ r. ⌜ r .bad ≡ firstNotFinite (now (src .entry)) ⌝ }

@@ -1,5 +1,4 @@
 use Prim.Native.Nat.{_-_}
-use native.Mathlib.Omega.{arith}
 use lib.ListN.{length}
 use lib.Ieee.{nan}
 use Rattle.lists.proofs.Mapped.{Mapped, mapped-none, mapped-room, mapped-more, mapped-end}

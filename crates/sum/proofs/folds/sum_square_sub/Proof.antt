@@ -1,6 +1,5 @@
 use Prim.Native.Nat.{_-_, _≤_}
-use mathlib.Core.Path.{_≡_, refl, ap, _∙_}
-use lib.Ieee.{binary32, add}
+use mathlib.Core.Path.{_≡_, refl, _∙_}
 use lib.ListN.{length, drop}
 use Rattle.sum.specs.Sum.{sumFrom}
 use Rattle.sum.specs.declared.SumOp.the-variants.{SumSquareSub}
