@@ -93,7 +93,9 @@ fn print_about(machine: &str) {
         "A time is the median of {SAMPLES} samples of {ms} ms of the thread's processor time, the contenders taking turns.\n"
     );
     if ARCH != machine {
-        println!("Built for {ARCH} and run on {machine} by an emulator: the times say nothing.\n");
+        println!(
+            "Built for {ARCH} and run on {machine}, each instruction by what a translator makes of it: the times are not those of an {ARCH} machine.\n"
+        );
     }
     if ARCH != "x86_64" {
         println!(

@@ -4,6 +4,8 @@ use mathlib.Core.Path.{_≡_, refl, sym, ap}
 use mathlib.Core.Bool.{Bool, true, false, cond, not, _||_, true≢false}
 use native.Mathlib.Omega.{arith}
 use borrow.Author.Count.{below-none, below-more}
+use borrow.Author.Tests.{le-leb, lt-leb, leb-true}
+use lib.Dec.{leb}
 use Rattle.lists.specs.Index.{firstNot}
 
 -- p passes every place below i. (The kit's `below-none` and `below-more` are its laws in a loop.)
@@ -59,6 +61,16 @@ first-le p (suc n) = step (p 0) (first-le (λ k. p (suc k)) n)
     step : (b : Bool) {m n : ℕ} → m ≤ n → cond b (suc m) 0 ≤ suc n
     step true h = omega arith
     step false h = omega arith
+
+-- that none fails, as a test: from what a search has passed, and back
+pub all-pass : (p : ℕ → Bool) (n i : ℕ) → i ≤ n → n ≤ i → Passed p i → true ≡ leb n (firstNot p n)
+all-pass p n i h k b = let e = first-end p n i h k b in sym (le-leb n (firstNot p n) (omega arith))
+
+pub one-fails : (p : ℕ → Bool) (n i : ℕ) → i < n → Passed p i → p i ≡ false → false ≡ leb n (firstNot p n)
+one-fails p n i h b f = let e = first-at p n i h b f in sym (lt-leb n (firstNot p n) (omega arith))
+
+pub passes : (p : ℕ → Bool) (n : ℕ) → leb n (firstNot p n) ≡ true → Passed p n
+passes p n h = first-clear p n (leb-true n (firstNot p n) h)
 
 -- tests that agree below n fail at the same place
 pub first-same : (p q : ℕ → Bool) (n : ℕ) → ((k : ℕ) → k < n → p k ≡ q k) → firstNot p n ≡ firstNot q n

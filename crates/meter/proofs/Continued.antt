@@ -7,9 +7,10 @@
 use mathlib.Core.Path.{_≡_, refl, ap}
 use mathlib.Core.List.{List}
 use lib.Ieee.{Float}
+use lib.Ieee.Bits.{is-true}
 use borrow.Author.Tests.{le-ltb}
 use Rattle.answer.specs.declared.Answer.the-variants.{Done}
-use Rattle.answer.proofs.Chain.{gives, clear, skip}
+use Rattle.answer.proofs.Chain.{gives, clear, skip, none-found}
 use Rattle.answer.proofs.Told.{tells-done}
 use Rattle.min_max.specs.MinMax.{extremesAnswer, extremesTold, minMaxTold}
 use Rattle.sum.specs.Sum.{addUpAnswer, totalTold, addUpTold}
@@ -17,8 +18,8 @@ use Rattle.sum.specs.declared.SumOp.the-variants.{SumSquare}
 use Rattle.meter.specs.Meter.{newMeter, nextOf, feedOf}
 use Rattle.meter.specs.declared.Meter.{Meter}
 use Rattle.meter.specs.declared.Fed.the-variants.{Next}
-use Rattle.meter.proofs.Feed.{Accepted, accepted, none-outside}
-use Rattle.meter.proofs.NoNan.{each-number, is-true}
+use Rattle.meter.proofs.Feed.{Accepted, accepted}
+use Rattle.meter.proofs.NoNan.{each-number}
 
 -- each value by its own fold, from the held one (`nextOf` of specs/Meter.antt)
 pub continued : (m n : Meter) (s : List Float) → feedOf m s ≡ Next n → n ≡ nextOf m s
@@ -27,11 +28,11 @@ continued m n s e = accepted m s n e .1
 -- what a meter takes, the sum and the extremes take
 sum-takes : (m : Meter) (s : List Float) → Accepted m s → Done ≡ addUpAnswer SumSquare s
 unfolding addUpAnswer
-sum-takes m s a = gives (skip (le-ltb _ _ (a .few)) (skip refl (none-outside (a .each-finite) clear)))
+sum-takes m s a = gives (skip (le-ltb _ _ (a .few)) (skip refl (none-found (a .each-finite) clear)))
 
 extremes-take : (m : Meter) (s : List Float) → Accepted m s → Done ≡ extremesAnswer s
 unfolding extremesAnswer
-extremes-take m s a = gives (skip (le-ltb _ _ (a .few)) (none-outside (λ i h. is-true _ (each-number s (a .each-finite) i h)) clear))
+extremes-take m s a = gives (skip (le-ltb _ _ (a .few)) (none-found (λ i h. is-true _ (each-number s (a .each-finite) i h)) clear))
 
 -- of a new meter they are what `add_up` and `min_max` answer
 pub new-fed : (n : Meter) (s : List Float) → feedOf newMeter s ≡ Next n

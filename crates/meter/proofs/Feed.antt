@@ -3,14 +3,12 @@ use Prim.Native.Nat.{ℕ, _+_, _≤_}
 use mathlib.Core.Path.{_≡_, refl, _∙_, ap}
 use mathlib.Core.Bool.{Bool, true, not}
 use mathlib.Core.List.{List, [], _∷_}
-use native.Mathlib.Nat.{le-refl}
 use native.Mathlib.Omega.{arith}
 use lib.Dec.{ltb}
 use lib.Ieee.{Float}
 use lib.ListN.{length}
 use borrow.Author.Tests.{ltb-false, le-ltb, not-false}
-use Rattle.lists.specs.Index.{firstNot}
-use Rattle.lists.proofs.First.{Passed, first-clear, first-end}
+use Rattle.lists.proofs.First.{Passed, first-clear}
 use Rattle.floats.specs.Float.{finiteAt, firstNotFinite}
 use Rattle.answer.specs.Answer.{Test, judged}
 use Rattle.answer.specs.Limits.{elementLimit}
@@ -18,15 +16,10 @@ use Rattle.answer.specs.declared.Answer.{Answer}
 use Rattle.answer.specs.declared.Answer.the-variants.{Done, Refused as No}
 use Rattle.answer.specs.declared.Refusal.{Refusal}
 use Rattle.answer.specs.declared.Refusal.the-variants.{NotFinite, Domain}
-use Rattle.answer.proofs.Chain.{Gives, gives, clear, skip, opened, found-none}
+use Rattle.answer.proofs.Chain.{Gives, gives, clear, skip, opened, none-found}
 use Rattle.meter.specs.Meter.{countLimit, soundMeter, tests, nextOf, fedBy, feedOf}
 use Rattle.meter.specs.declared.Meter.{Meter}
 use Rattle.meter.specs.declared.Fed.the-variants.{Next, Refused}
-
--- a search that finds no place, as a test
-pub none-outside : {p : ℕ → Bool} {n : ℕ} {r : Refusal} {ts : List Test} {a : Answer} → Passed p n → Gives ts a
-    → Gives ((ltb (firstNot p n) n, r) ∷ ts) a
-none-outside {p} {n} h g = found-none n (first-end p n n (le-refl n) (le-refl n) h) (le-refl n) g
 
 module _ (m : Meter) (s : List Float) where
   -- past the two tests of refusal 2
@@ -52,7 +45,7 @@ module _ (m : Meter) (s : List Float) where
   pub accepts : Accepted → Next (nextOf m s) ≡ feedOf m s
   accepts a =
       feed-next refl
-      (past-counts (a .few) (a .room) (skip (ap not (a .sound)) (none-outside (a .each-finite) clear)))
+      (past-counts (a .few) (a .room) (skip (ap not (a .sound)) (none-found (a .each-finite) clear)))
 
   -- and the meter that it hands back
   pub accepted : (n : Meter) → feedOf m s ≡ Next n → Accepted × (n ≡ nextOf m s)

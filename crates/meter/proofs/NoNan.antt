@@ -8,6 +8,7 @@ use mathlib.Core.Bool.{Bool, true, false, not, _&&_}
 use mathlib.Core.List.{List}
 use lib.Dec.{T, T-not, not-T}
 use lib.Ieee.{Float, nan, ofBits, lt, le, isNan}
+use lib.Ieee.Bits.{is-true}
 use lib.Ieee.Fits.{and-l, and-r, and-i}
 use lib.ListN.{length, getD}
 use Rattle.lists.proofs.First.{Passed}
@@ -22,10 +23,6 @@ use Rattle.meter.specs.Meter.{soundMeter, nextOf, feedOf}
 use Rattle.meter.specs.declared.Meter.{Meter}
 use Rattle.meter.specs.declared.Fed.the-variants.{Next}
 use Rattle.meter.proofs.Feed.{Accepted, accepted}
-
-pub is-true : (b : Bool) → T b → b ≡ true
-is-true true t = refl
-is-true false t = absurd t
 
 -- a sound meter, part by part
 pub record Sound (m : Meter) : Type 0 where

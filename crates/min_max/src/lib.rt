@@ -42,19 +42,6 @@ fn higher(held: f32, x: f32) -> f32
     if x > held { x } else { held }
 }
 
-// The held value or the least element, the first of equal ones. For the crates above.
-pub fn least_from(held: f32, src: &[f32]) -> f32
-    ensures { λ r. ⌜ r ≡ leastFrom held (now (src .entry)) ⌝ }
-{
-    let mut least = held;
-    let mut i = 0;
-    while i < src.len() {
-        least = lower(least, src[i]);
-        i += 1;
-    }
-    least
-}
-
 // The held value or the largest element, the first of equal ones. For the crates above.
 pub fn largest_from(held: f32, src: &[f32]) -> f32
     ensures { λ r. ⌜ r ≡ largestFrom held (now (src .entry)) ⌝ }

@@ -5,12 +5,11 @@
 --
 -- `Given` asks that x is an f32 in the domain and that alpha is finite. Sigmoid lies from 0 to 1 (ExpFamily.antt), Tanh and Erf
 -- from -1 to 1 (Tanh.antt, Erf.antt). Assumes nothing.
-use mathlib.Core.Path.{_≡_, sym, subst}
-use mathlib.Core.Bool.{Bool, true}
 use lib.Dec.{T}
 use lib.Ieee.{Float, ofBits}
 use lib.Ieee.Fits.{and-l, and-r}
 use lib.Ieee.Scale.{finite}
+use denote.Floats.{passes}
 use Rattle.consts.specs.Consts.{zeroF, oneF}
 use Rattle.erf.specs.Erf.{erfOf}
 use Rattle.exp.specs.Exp.{reducedRangeExpOf, sigmoidOf}
@@ -29,18 +28,15 @@ use Rattle.no_nan.proofs.Erf.{erf-between, gelu-finite, approx-gelu-fin
 use Rattle.no_nan.proofs.SinCos.{sin-finite, cos-finite}
 
 -- ---- the domain's parts
-holds : {b : Bool} → b ≡ true → T b
-holds e = subst T (sym e) tt
-
 module _ (op : Op) (x : Float) (g : Given op x) where
   is-finite : T (finite x)
-  is-finite = and-l (finite x) (alsoIn op x) (holds (g .inside))
+  is-finite = and-l (finite x) (alsoIn op x) (passes _ (g .inside))
 
   is-number : Number x
   is-number = finite-number x is-finite
 
   also : T (alsoIn op x)
-  also = and-r (finite x) (alsoIn op x) (holds (g .inside))
+  also = and-r (finite x) (alsoIn op x) (passes _ (g .inside))
 
 -- ---- each operator
 ends : T (finite zeroF) × T (finite oneF)
@@ -53,8 +49,8 @@ stays-finite ReducedRangeExp x g a s =
     between-finite zeroF oneF (reducedRangeExpOf x) (ends .0) (ends .1) (reduced-between x (also ReducedRangeExp x g))
 stays-finite Sigmoid x g a s = between-finite zeroF oneF (sigmoidOf x) (ends .0) (ends .1) (sigmoid-between x (is-number Sigmoid x g))
 stays-finite Silu x g a s = silu-finite x (g .value) (is-finite Silu x g)
-stays-finite (Swish alpha) x g a s = swish-finite alpha x (holds (g .alpha)) (g .value) (is-finite (Swish alpha) x g)
-stays-finite (Elu alpha) x g a s = elu-finite alpha x a (holds (g .alpha)) (is-finite (Elu alpha) x g)
+stays-finite (Swish alpha) x g a s = swish-finite alpha x (passes _ (g .alpha)) (g .value) (is-finite (Swish alpha) x g)
+stays-finite (Elu alpha) x g a s = elu-finite alpha x a (passes _ (g .alpha)) (is-finite (Elu alpha) x g)
 stays-finite Tanh x g a s = between-finite minus1 oneF (tanhOf x) tt (ends .1) (tanh-between x (is-number Tanh x g))
 stays-finite Erf x g a s = between-finite minus1 oneF (erfOf x) tt (ends .1) (erf-between x (is-number Erf x g))
 stays-finite Gelu x g a s = gelu-finite x (g .value) (is-finite Gelu x g)
@@ -69,8 +65,8 @@ no-nan ReducedRangeExp x g = finite-number (evalOf ReducedRangeExp x) (stays-fin
 no-nan Sigmoid x g = finite-number (evalOf Sigmoid x) (stays-finite Sigmoid x g tt tt)
 no-nan Silu x g = finite-number (evalOf Silu x) (stays-finite Silu x g tt tt)
 no-nan (Swish alpha) x g =
-    finite-number (evalOf (Swish alpha) x) (swish-finite alpha x (holds (g .alpha)) (g .value) (is-finite (Swish alpha) x g))
-no-nan (Elu alpha) x g = elu-number alpha x (holds (g .alpha)) (is-finite (Elu alpha) x g)
+    finite-number (evalOf (Swish alpha) x) (swish-finite alpha x (passes _ (g .alpha)) (g .value) (is-finite (Swish alpha) x g))
+no-nan (Elu alpha) x g = elu-number alpha x (passes _ (g .alpha)) (is-finite (Elu alpha) x g)
 no-nan Tanh x g = finite-number (evalOf Tanh x) (stays-finite Tanh x g tt tt)
 no-nan Erf x g = finite-number (evalOf Erf x) (stays-finite Erf x g tt tt)
 no-nan Gelu x g = finite-number (evalOf Gelu x) (stays-finite Gelu x g tt tt)

@@ -13,7 +13,7 @@ use Rattle.answer.specs.declared.Answer.the-variants.{Done}
 use Rattle.answer.specs.declared.Refusal.the-variants.{Length}
 use Rattle.answer.proofs.Chain.{opened}
 use Rattle.normalize.specs.declared.Settings.{Settings}
-use Rattle.normalize.specs.Normal.{resultAt, results, numberAt, firstNan, tests, inPlaceAnswer, inPlaceOut, normalizeAnswer, normalizeOut}
+use Rattle.normalize.specs.Normal.{resultAt, results, resultNumber, firstNanResult, tests, inPlaceAnswer, inPlaceOut, normalizeAnswer, normalizeOut}
 use Rattle.normalize.proofs.Passing.{passing}
 
 -- the statement, of a list that a call leaves
@@ -22,11 +22,11 @@ Numbers l = (i : ℕ) → i < length l → T (not (isNan (getD l i nan)))
 
 module _ (st : Settings) (hs : Bool) (es : List Float) (hb : Bool) (eb s : List Float) where
   numbers : Done ≡ judged (tests st hs es hb eb s) → Numbers (results st hs es hb eb s)
-  unfolding firstNan
+  unfolding firstNanResult
   numbers e i h =
       let k : i < length s = rw tab-length at h in
       rw (tab-at (resultAt st hs es hb eb s) (length s) i nan k)
-      (subst T (sym (first-clear (numberAt st hs es hb eb s) (length s) (passing st hs es hb eb s e .1) i k)) tt)
+      (subst T (sym (first-clear (resultNumber st hs es hb eb s) (length s) (passing st hs es hb eb s e .1) i k)) tt)
 
   pub in-place-numbers : Done ≡ inPlaceAnswer st hs es hb eb s → Numbers (inPlaceOut st hs es hb eb s)
   unfolding inPlaceAnswer

@@ -12,7 +12,7 @@ use Rattle.answer.specs.declared.Answer.the-variants.{Done}
 use Rattle.answer.specs.declared.Refusal.the-variants.{Length, TooMany, NotFinite, Domain, Result}
 use Rattle.answer.proofs.Chain.{opened, done-is}
 use Rattle.normalize.specs.declared.Settings.{Settings}
-use Rattle.normalize.specs.Normal.{unfitOf, firstNan, tests, Fitted}
+use Rattle.normalize.specs.Normal.{unfitOf, firstNanResult, tests, Fitted}
 
 -- a slice in use has the length n
 pub fit : (has : Bool) (s : List Float) (n : ℕ) → unfitOf has (length s) n ≡ false → has ≡ true → length s ≡ n
@@ -20,7 +20,7 @@ fit true s n h e = eqb-true _ _ (not-false _ h)
 fit false s n h e = absurd (false≢true e)
 
 module _ (st : Settings) (hs : Bool) (es : List Float) (hb : Bool) (eb s : List Float) where
-  pub passing : Done ≡ judged (tests st hs es hb eb s) → Fitted hs es hb eb (length s) × (length s ≤ firstNan st hs es hb eb s)
+  pub passing : Done ≡ judged (tests st hs es hb eb s) → Fitted hs es hb eb (length s) × (length s ≤ firstNanResult st hs es hb eb s)
   passing e =
       let o1 = opened _ Length (drop 1 (tests st hs es hb eb s)) e in
       let o2 = opened _ Length (drop 2 (tests st hs es hb eb s)) (o1 .1) in

@@ -9,7 +9,7 @@ use lib.ListN.{length}
 use Rattle.answer.specs.Answer.{placeOf}
 use Rattle.answer.specs.Limits.{elementLimit}
 use Rattle.answer.proofs.Bounded.{Bounded, place-bounded}
-use Rattle.normalize.specs.Normal.{tests, firstBad, firstNan, inPlaceAnswer, normalizeAnswer}
+use Rattle.normalize.specs.Normal.{tests, firstBad, firstNanResult, inPlaceAnswer, normalizeAnswer}
 use Rattle.normalize.specs.declared.Settings.{Settings}
 
 module _ (st : Settings) (hs : Bool) (es : List Float) (hb : Bool) (eb s : List Float) where
@@ -24,7 +24,7 @@ module _ (st : Settings) (hs : Bool) (es : List Float) (hb : Bool) (eb s : List 
           λ d. omega arith,
           λ d. (
             λ e. omega (arith, ltb-false elementLimit (length s) c, ltb-true (firstBad hs es hb eb s) (length s) e),
-            λ e. (λ f. omega (arith, ltb-false elementLimit (length s) c, ltb-true (firstNan st hs es hb eb s) (length s) f), λ f. tt),
+            λ e. (λ f. omega (arith, ltb-false elementLimit (length s) c, ltb-true (firstNanResult st hs es hb eb s) (length s) f), λ f. tt),
           ),
         ),
       ),

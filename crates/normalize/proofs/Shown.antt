@@ -1,15 +1,20 @@
--- A finite result shows that what went into it is finite, and is a number. Assumes nothing.
+-- What a look shows: a finite result, that all that went into it is finite; finite data, where no slice is in use, that results are numbers. Assumes nothing.
 use Prim.Native.Nat.{ℕ}
-use mathlib.Core.Path.{_≡_, refl}
-use mathlib.Core.Bool.{Bool, true, false, cond, not, false≢true}
+use mathlib.Core.Path.{_≡_}
+use mathlib.Core.Logic.{inl, inr}
+use mathlib.Core.Bool.{Bool, true, false, cond, not, _&&_, false≢true}
 use mathlib.Core.List.{List}
-use lib.Ieee.{Float, nan, inf, fin, binary32, add, mul, eq, isNan}
+use lib.Ieee.{Float, nan, binary32, add, mul, eq, ne, ofBits}
 use lib.Ieee.Scale.{finite}
-use lib.ListN.{length, getD}
-use Rattle.lists.proofs.First.{Passed}
+use lib.ListN.{getD}
+use denote.Floats.{passes, is-true}
+use Rattle.lists.proofs.Tests.{both}
+use Rattle.floats.specs.Float.{finiteAt}
+use Rattle.floats.proofs.NoNan.{add-number, sub-number, mul-number}
+use Rattle.floats.proofs.Sign.{finite-number}
 use Rattle.floats.proofs.Finite.{add-finite, sub-finite, mul-finite}
 use Rattle.consts.specs.Consts.{zeroF, oneF}
-use Rattle.normalize.specs.Normal.{centred, arm1, arm2, arm3, normOf, resultAt, finiteAll, numberAt}
+use Rattle.normalize.specs.Normal.{centred, arm1, arm2, arm3, normOf, resultAt, settingsOk, finiteAll, resultNumber}
 use Rattle.normalize.specs.declared.Settings.{Settings}
 
 module _ (st : Settings) where
@@ -51,17 +56,29 @@ module _ (st : Settings) where
       let shown = arm3-shows (getD es i nan) (getD eb i nan) (getD s i nan) h in
       rw (shown .0, shown .1 .0, shown .1 .1)
 
-number : (x : Float) → finite x ≡ true → not (isNan x) ≡ true
-unfolding isNan
-number nan h = absurd (false≢true h)
-number (inf s) h = absurd (false≢true h)
-number (fin s m e) h = refl
+-- what the searches for 4 and for 6 ask of a place
+abbrev pub Sound : Settings → Bool → List Float → Bool → List Float → List Float → ℕ → Type 0
+Sound st hs es hb eb s i = (finiteAll hs es hb eb s i ≡ true) × (resultNumber st hs es hb eb s i ≡ true)
 
--- where every result is finite, the searches for 4 and for 6 find nothing
-module _ (st : Settings) (hs : Bool) (es : List Float) (hb : Bool) (eb s : List Float)
-    (h : Passed (λ i. finite (resultAt st hs es hb eb s i)) (length s)) where
-  pub none-bad : Passed (finiteAll hs es hb eb s) (length s)
-  none-bad i l = in-use st hs es hb eb s i (h i l)
+-- a finite result shows both
+pub result-shows : (st : Settings) (hs : Bool) (es : List Float) (hb : Bool) (eb s : List Float) (i : ℕ)
+    → finite (resultAt st hs es hb eb s i) ≡ true → Sound st hs es hb eb s i
+result-shows st hs es hb eb s i h = (in-use st hs es hb eb s i h, is-true _ (finite-number (resultAt st hs es hb eb s i) (passes _ h)))
 
-  pub none-nan : Passed (numberAt st hs es hb eb s) (length s)
-  none-nan i l = number (resultAt st hs es hb eb s i) (h i l)
+-- and so does a finite element, where no slice is in use and the scale is not zero
+pub data-shows : (st : Settings) (hs : Bool) (es : List Float) (hb : Bool) (eb s : List Float) (i : ℕ) → not hs ≡ true → not hb ≡ true
+    → settingsOk st ≡ true → ne (st .scale) zeroF ≡ true → finiteAt s i ≡ true → Sound st hs es hb eb s i
+unfolding normOf ne ofBits
+data-shows st true es hb eb s i a b ok z h = absurd (false≢true a)
+data-shows st false es true eb s i a b ok z h = absurd (false≢true b)
+data-shows st false es false eb s i a b ok z h =
+    let x = getD s i nan in
+    let p = both (finite (st .«pre_scale_bias»)) (finite (st .scale) && finite (st .bias)) ok in
+    let q = both (finite (st .scale)) (finite (st .bias)) (p .1) in
+    let X = passes (finite x) h in
+    let P = passes (finite (st .«pre_scale_bias»)) (p .0) in
+    let S = passes (finite (st .scale)) (q .0) in
+    let B = passes (finite (st .bias)) (q .1) in
+    let centre = sub-number binary32 x (st .«pre_scale_bias») (finite-number _ X) (finite-number _ P) (inl X) in
+    let product = mul-number binary32 (centred st x) (st .scale) centre (finite-number _ S) (inr (passes _ z)) (inl S) in
+    (rw h, is-true _ (add-number binary32 (mul binary32 (centred st x) (st .scale)) (st .bias) product (finite-number _ B) (inr B)))

@@ -69,11 +69,11 @@ unfoldable pub firstBad : Bool → List Float → Bool → List Float → List F
 firstBad hs es hb eb s = firstNot (finiteAll hs es hb eb s) (length s)
 
 -- 6: the first index whose result would be a NaN, or the length
-abbrev pub numberAt : Settings → Bool → List Float → Bool → List Float → List Float → ℕ → Bool
-numberAt st hs es hb eb s i = not (isNan (resultAt st hs es hb eb s i))
+abbrev pub resultNumber : Settings → Bool → List Float → Bool → List Float → List Float → ℕ → Bool
+resultNumber st hs es hb eb s i = not (isNan (resultAt st hs es hb eb s i))
 
-unfoldable pub firstNan : Settings → Bool → List Float → Bool → List Float → List Float → ℕ
-firstNan st hs es hb eb s = firstNot (numberAt st hs es hb eb s) (length s)
+unfoldable pub firstNanResult : Settings → Bool → List Float → Bool → List Float → List Float → ℕ
+firstNanResult st hs es hb eb s = firstNot (resultNumber st hs es hb eb s) (length s)
 
 -- all but the length of what is written
 abbrev pub tests : Settings → Bool → List Float → Bool → List Float → List Float → List Test
@@ -83,7 +83,7 @@ tests st hs es hb eb s =
     ∷ (ltb elementLimit (length s), TooMany)
     ∷ (not (settingsOk st), NotFinite)
     ∷ (ltb (firstBad hs es hb eb s) (length s), Domain (firstBad hs es hb eb s))
-    ∷ (ltb (firstNan st hs es hb eb s) (length s), Result (firstNan st hs es hb eb s))
+    ∷ (ltb (firstNanResult st hs es hb eb s) (length s), Result (firstNanResult st hs es hb eb s))
     ∷ []
 
 -- ---- in place: what is told, and what is left of the data

@@ -9,6 +9,7 @@ use lib.Dec.{T}
 use lib.ListN.{length, getD}
 use lib.Ieee.{Float, nan, inf, fin, binary32, sub, neg, lt, le, ofBits}
 use lib.Ieee.Scale.{finite}
+use lib.Ieee.Bits.{is-true}
 use Rattle.consts.specs.Consts.{zeroF, f32Min}
 use Rattle.floats.proofs.Sign.{finite-number}
 use Rattle.floats.proofs.Signed.{minus-inf, at-most→le}
@@ -119,8 +120,4 @@ module _ (s : List Float) (d : Each InDomain s) where
 
   -- as `reduced_range_exp` asks it
   pub not-above : Each (λ x. lt zeroF (sub binary32 x (maxOf s)) ≡ false) s
-  not-above i h = le-not-lt (sub binary32 (getD s i nan) (maxOf s)) zeroF (is-true (less-max i h))
-    where
-      is-true : {b : Bool} → T b → b ≡ true
-      is-true {b = true} t = refl
-      is-true {b = false} t = absurd t
+  not-above i h = le-not-lt (sub binary32 (getD s i nan) (maxOf s)) zeroF (is-true _ (less-max i h))

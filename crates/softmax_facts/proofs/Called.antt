@@ -14,10 +14,10 @@ use borrow.Author.Tests.{eq-eqb, le-ltb, eqb-true, ltb-true, ltb-false}
 use Rattle.answer.specs.Answer.{whenDone, toldOf}
 use Rattle.answer.specs.Limits.{elementLimit}
 use Rattle.answer.specs.declared.Answer.the-variants.{Done}
-use Rattle.answer.proofs.Chain.{Gives, clear, skip, found-none, gives}
+use Rattle.answer.proofs.Chain.{Gives, clear, skip, none-found, gives}
 use Rattle.consts.specs.Consts.{zeroF, oneF}
 use Rattle.lists.specs.Index.{firstNot, tab}
-use Rattle.lists.proofs.First.{first-clear, first-end, first-fails, first-le}
+use Rattle.lists.proofs.First.{first-clear, first-fails, first-le}
 use Rattle.lists.proofs.Tab.{tab-length, tab-at}
 use Rattle.softmax.specs.Softmax.{isMasked, inDomain, firstOutside, allMasked, weightsOf, resultOf, tests, inPlaceAnswer, inPlaceTold, inPlaceOut, softmaxAnswer, softmaxTold, softmaxOut}
 use Rattle.softmax.proofs.Domain.{in-domain}
@@ -61,15 +61,11 @@ module _ (s : List Float) (I : Input s) where
   unfolding resultOf
   result-weights = rw not-all-masked
 
-  none-outside : length s ≡ firstOutside s
-  unfolding firstOutside
-  none-outside = first-end (λ i. inDomain (getD s i nan)) (length s) (length s) (omega arith) (omega arith) (I .domain)
-
   passes : (flush : Bool) → Gives (tests flush s) Done
+  unfolding firstOutside
   passes flush =
-      let all-in : length s ≤ length s = omega arith in
       let some : (not flush && allMasked s) ≡ false = rw not-all-masked (and-false (not flush)) in
-      skip (le-ltb _ _ (I .few)) (found-none (length s) none-outside all-in (skip some clear))
+      skip (le-ltb _ _ (I .few)) (none-found (I .domain) (skip some clear))
 
   pub called : (flush : Bool) (d : List Float) → length s ≡ length d → Called flush s d
   unfolding inPlaceAnswer softmaxAnswer

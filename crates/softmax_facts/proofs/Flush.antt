@@ -4,7 +4,7 @@ use mathlib.Core.Logic.{inl, inr}
 use mathlib.Core.List.{List, [], _∷_, map, foldl}
 use Prim.Native.Nat.{ℕ, _≤_, _<_}
 use native.Mathlib.Omega.{arith}
-use mathlib.Core.Bool.{Bool, true, false, not, _&&_, cond, false≢true}
+use mathlib.Core.Bool.{Bool, true, false, not, cond, false≢true}
 use lib.Dec.{T, ltb}
 use lib.ListN.{length, getD}
 use lib.Seq.{ext-getD}
@@ -15,6 +15,7 @@ use Rattle.answer.specs.Limits.{elementLimit}
 use Rattle.consts.specs.Consts.{zeroF, oneF}
 use Rattle.lists.specs.Index.{firstNot, tab}
 use Rattle.lists.proofs.First.{first-clear}
+use Rattle.lists.proofs.Tests.{both}
 use Rattle.lists.proofs.Tab.{tab-length, tab-at}
 use Rattle.sum.specs.Sum.{sumFrom}
 use Rattle.softmax.specs.Softmax.{isMasked, allMasked, expsOf, sumOf, weightsOf, resultOf}
@@ -60,12 +61,8 @@ all-masked : (s : List Float) → allMasked s ≡ true → Each (λ x. x ≡ inf
 unfolding allMasked
 all-masked s e i h =
     let p : ℕ → Bool = λ i. isMasked (getD s i nan) in
-    let k = eqb-true (firstNot p (length s)) (length s) (second (ltb 0 (length s)) e) in
+    let k = eqb-true (firstNot p (length s)) (length s) (both (ltb 0 (length s)) _ e .1) in
     masked-is (getD s i nan) (first-clear p (length s) (omega arith) i h)
-  where
-    second : (a : Bool) {b : Bool} → (a && b) ≡ true → b ≡ true
-    second true h = h
-    second false h = absurd (false≢true h)
 
 module _ (s : List Float) (few : length s ≤ elementLimit) (d : Each InDomain s) (f : Each (λ x. T (fits binary32 x)) s) where
   masked-sum : Each (λ x. x ≡ inf true) s → sumOf (expsOf s) ≡ zeroF

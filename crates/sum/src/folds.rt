@@ -1,5 +1,10 @@
 // A loop for each sum: none chooses inside.
+ghost use mathlib.Core.List.{map};
 ghost use mathlib.Core.Path.{_≡_};
+ghost use Prim.Native.Nat.{_+_, _≤_, _<_};
+ghost use lib.Ieee.{binary32, sub};
+ghost use lib.ListN.{length};
+ghost use Rattle.exp.specs.Exp.{expOf};
 ghost use Rattle.floats.specs.Float.{mulAdd};
 ghost use Rattle.sum.specs.Sum.{sumFrom};
 ghost use Rattle.sum.specs.declared.SumOp.the-variants.{Sum, SumSquare, SumAbs, SumSquareSub, SumExpSub};
@@ -60,14 +65,54 @@ pub fn sum_square_sub(offset: f32, held: f32, src: &[f32]) -> f32
     sum
 }
 
+// The exponential of each element less the offset.
+fn exps(offset: f32, src: &[f32], dst: &mut [f32])
+    requires { ⌜ length (now src) ≡ length (now dst) ⌝ }
+    ensures { λ _. ⌜ now (dst .exit) ≡ map (λ x. expOf (sub binary32 x offset)) (now (src .entry)) ⌝ }
+{
+    let mut i = 0;
+    while i < src.len() {
+        dst[i] = exp(src[i] - offset);
+        i += 1;
+    }
+}
+
+// By way of the exponentials, in the slice lent for the work: they go in lanes, and only the additions in order.
+fn sum_by(offset: f32, held: f32, src: &[f32], exponentials: &mut [f32]) -> f32
+    requires { ⌜ length (now src) ≡ length (now exponentials) ⌝ }
+    ensures { λ r. ⌜ r ≡ sumFrom (SumExpSub offset) held (now (src .entry)) ⌝ }
+{
+    exps(offset, src, exponentials);
+    sum(held, exponentials)
+}
+
+// A run of elements, few enough for an array.
+fn sum_run(offset: f32, held: f32, src: &[f32]) -> f32
+    requires { ⌜ length (now src) ≤ 64 ⌝ }
+    ensures { λ r. ⌜ r ≡ sumFrom (SumExpSub offset) held (now (src .entry)) ⌝ }
+{
+    let n = src.len();
+    let mut exponentials = [0.0f32; 64];
+    sum_by(offset, held, src, &mut exponentials[..n])
+}
+
+// Where the run that begins at i ends.
+fn run_end(i: usize, n: usize) -> usize
+    requires { ⌜ i < n ⌝ }
+    ensures { λ r. ⌜ (i < r) × (r ≤ n) × (r ≤ i + 64) ⌝ }
+{
+    if n - i < 64 { n } else { i + 64 }
+}
+
 pub fn sum_exp_sub(offset: f32, held: f32, src: &[f32]) -> f32
     ensures { λ r. ⌜ r ≡ sumFrom (SumExpSub offset) held (now (src .entry)) ⌝ }
 {
     let mut sum = held;
     let mut i = 0;
     while i < src.len() {
-        sum = sum + exp(src[i] - offset);
-        i += 1;
+        let end = run_end(i, src.len());
+        sum = sum_run(offset, sum, &src[i..end]);
+        i = end;
     }
     sum
 }

@@ -1,12 +1,13 @@
 -- What a match on the operator says in its last arm, and of a domain that asks more than finite. Assumes nothing.
 use Prim.Native.Nat.{ℕ}
 use mathlib.Core.List.{List, [], _∷_}
-use mathlib.Core.Bool.{Bool, true, false, _&&_, false≢true}
+use mathlib.Core.Bool.{true, false}
 use mathlib.Core.Path.{_≡_, refl, sym}
 use types.Run.{OneOf, miss}
 use denote.Enum.Declared.{tagOf}
 use lib.Ieee.{Float, lt, le}
 use lib.Ieee.Scale.{finite}
+use Rattle.lists.proofs.Tests.{both}
 use Rattle.consts.specs.Consts.{zeroF}
 use Rattle.floats.proofs.Order.{le-not-lt}
 use Rattle.unary.proofs.Op.{the-type}
@@ -53,10 +54,6 @@ no-more Cos x h = absurd (miss wide 11 tt h)
 pub wide-in : (op : Op) (x : Float) → OneOf wide (tagOf the-type op) → finite x ≡ true → inDomain op x ≡ true
 wide-in op x h e = rw (e, sym (no-more op x h))
 
-second : (a b : Bool) → (a && b) ≡ true → b ≡ true
-second true b h = h
-second false b h = absurd (false≢true h)
-
 -- what `reduced_range_exp` asks holds in its domain
 pub not-above : (op : Op) (x : Float) → op ≡ ReducedRangeExp → inDomain op x ≡ true → lt zeroF x ≡ false
-not-above op x e h = le-not-lt x zeroF (second (finite x) (le x zeroF) (rw e at h))
+not-above op x e h = le-not-lt x zeroF (both (finite x) (le x zeroF) (rw e at h) .1)

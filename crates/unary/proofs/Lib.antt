@@ -1,3 +1,4 @@
 pub mod Cases
 pub mod Determined
 pub mod Place
+pub mod Shown

@@ -1,14 +1,23 @@
 // A look at all elements with no early end and no choice inside, so that it runs in lanes.
-ghost use mathlib.Core.Bool.{false, true};
+ghost use mathlib.Core.Bool.{false, true, _&&_};
 ghost use mathlib.Core.Path.{_≡_};
 ghost use Prim.Native.Nat.{ℕ, _<_};
-ghost use lib.Ieee.{nan};
+ghost use lib.Ieee.{nan, le};
 ghost use lib.ListN.{length, getD};
+ghost use Rattle.consts.specs.Consts.{zeroF, f32Min};
 ghost use Rattle.unary.specs.Unary.{inDomain};
 ghost use Rattle.unary.specs.declared.Op.the-variants.{ReducedRangeExp, Sin};
 use crate::Op;
 use crate::in_domain;
+use consts::F32_MIN;
 use floats::scan::any_not_finite;
+
+// From the least f32 to zero: a NaN, an infinity and what is above zero each fail one of the two.
+fn from_least_to_zero(x: f32) -> bool
+    ensures { λ r. ⌜ r ≡ (le x zeroF && le f32Min x) ⌝ }
+{
+    if x <= 0.0 { x >= F32_MIN } else { false }
+}
 
 fn any_above_zero(src: &[f32]) -> bool
     ensures { λ r. ⌜ (r ≡ false → (i : ℕ) → i < length (now (src .entry)) → inDomain ReducedRangeExp (getD (now (src .entry)) i nan) ≡ true) ⌝ }
@@ -16,7 +25,7 @@ fn any_above_zero(src: &[f32]) -> bool
     let mut bad = false;
     let mut i = 0;
     while i < src.len() {
-        bad = bad | !in_domain(Op::ReducedRangeExp, src[i]);
+        bad = bad | !from_least_to_zero(src[i]);
         i += 1;
     }
     bad

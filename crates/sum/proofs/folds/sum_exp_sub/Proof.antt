@@ -1,10 +1,10 @@
 use Prim.Native.Nat.{_-_, _≤_}
-use mathlib.Core.Path.{_≡_, refl, ap, _∙_}
-use lib.Ieee.{binary32, add}
-use lib.ListN.{length, drop}
+use mathlib.Core.Path.{_≡_, refl, _∙_}
+use native.Mathlib.Omega.{arith}
+use lib.ListN.{length, drop, length-take}
 use Rattle.sum.specs.Sum.{sumFrom}
 use Rattle.sum.specs.declared.SumOp.the-variants.{SumExpSub}
-use Rattle.sum.proofs.Fold.{sum-more, sum-end}
+use Rattle.sum.proofs.Fold.{sum-run, sum-end}
 use borrow.Author.Needs.{needs}
 use Rattle.sum.proofs.folds.sum_exp_sub.Statement.{statement}
 use Rattle.sum.proofs.folds.sum_exp_sub.Tie as tie
@@ -18,25 +18,32 @@ abbrev μ-loop : tie.MeasureT-loop
 loop-holds : tie.Need-loop-holds Inv-loop μ-loop
 loop-holds c = (search needs, refl)
 
-mul-exp : tie.Need-mul-exp Inv-loop μ-loop
-mul-exp c = search needs
+run-end-requires : tie.Need-run-end-requires Inv-loop μ-loop
+run-end-requires c κs = search needs
 
-shared-slice-read-exp : tie.Need-shared-slice-read-exp Inv-loop μ-loop
-shared-slice-read-exp c = search needs
+mul-sum-run : tie.Need-mul-sum-run Inv-loop μ-loop
+mul-sum-run c = search needs
 
-exp-requires : tie.Need-exp-requires Inv-loop μ-loop
-exp-requires c κs = search needs
+sub-sum-run : tie.Need-sub-sum-run Inv-loop μ-loop
+sub-sum-run c = omega arith
 
-add-i : tie.Need-add-i Inv-loop μ-loop
-add-i c = search needs
+part-sum-run-start : tie.Need-part-sum-run-start Inv-loop μ-loop
+part-sum-run-start c = omega arith
+
+part-sum-run-end : tie.Need-part-sum-run-end Inv-loop μ-loop
+part-sum-run-end c = omega arith
+
+sum-run-requires : tie.Need-sum-run-requires Inv-loop μ-loop
+sum-run-requires c κs = simp length-take (omega arith)
 
 loop-less : tie.Need-loop-less Inv-loop μ-loop
-loop-less c = search needs
+loop-less c = omega arith
 
 loop-again : tie.Need-loop-again Inv-loop μ-loop
 loop-again c =
-    let l = c .before .before .before in
-    (search needs, sum-more _ (l .before .before .args .src .now) (l .loop .i) (l .loop .sum) _ (c .before .before .loop-test .taken) (ap (add binary32 (l .loop .sum)) (c .exp .ensures)) ∙ l .loop .inv .1)
+    let end = c .before .before in
+    let l = end .before .before in
+    (omega arith, sum-run _ (l .before .before .args .src .now) (l .loop .i) (end .run-end .result) (l .loop .sum) _ (omega arith) (c .sum-run .ensures) ∙ l .loop .inv .1)
 
 returns : tie.Need-returns Inv-loop μ-loop
 returns c =
@@ -50,10 +57,12 @@ sum-exp-sub-spec =
     Inv-loop
     μ-loop
     loop-holds
-    mul-exp
-    shared-slice-read-exp
-    exp-requires
-    add-i
+    run-end-requires
+    mul-sum-run
+    sub-sum-run
+    part-sum-run-start
+    part-sum-run-end
+    sum-run-requires
     loop-less
     loop-again
     returns)

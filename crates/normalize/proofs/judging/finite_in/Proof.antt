@@ -1,8 +1,8 @@
 use native.Mathlib.Omega.{arith}
 use mathlib.Core.Path.{_∙_}
 use borrow.Author.Needs.{needs}
-use Rattle.normalize.proofs.finite_in.Statement.{statement}
-use Rattle.normalize.proofs.finite_in.Tie as tie
+use Rattle.normalize.proofs.judging.finite_in.Statement.{statement}
+use Rattle.normalize.proofs.judging.finite_in.Tie as tie
 
 mul-is-finite : tie.Need-mul-is-finite
 mul-is-finite c = omega (arith, c .before .before .pre (c .if1 .taken))

@@ -1,6 +1,6 @@
 use borrow.Author.Needs.{needs}
-use Rattle.normalize.proofs.unfit.Statement.{statement}
-use Rattle.normalize.proofs.unfit.Tie as tie
+use Rattle.normalize.proofs.judging.unfit.Statement.{statement}
+use Rattle.normalize.proofs.judging.unfit.Tie as tie
 
 returns : tie.Need-returns
 returns c = simp (c .if1 .taken)

@@ -3,8 +3,8 @@ use mathlib.Core.Path.{sym, _∙_}
 use borrow.Author.Tests.{not-true}
 use Rattle.normalize.proofs.Three.{second-no, third-is}
 use borrow.Author.Needs.{needs}
-use Rattle.normalize.proofs.finite_all.Statement.{statement}
-use Rattle.normalize.proofs.finite_all.Tie as tie
+use Rattle.normalize.proofs.judging.finite_all.Statement.{statement}
+use Rattle.normalize.proofs.judging.finite_all.Tie as tie
 
 mul-is-finite : tie.Need-mul-is-finite
 mul-is-finite c = search needs

@@ -5,14 +5,14 @@ use lib.Ieee.{isNan}
 use lib.ListN.{length}
 use borrow.Author.Count.{below-none, below-more}
 use Rattle.lists.proofs.First.{Passed, first-at, first-end}
-use Rattle.normalize.specs.Normal.{numberAt, firstNan}
+use Rattle.normalize.specs.Normal.{resultNumber, firstNanResult}
 use borrow.Author.Needs.{needs}
-use Rattle.normalize.proofs.first_nan.Statement.{statement}
-use Rattle.normalize.proofs.first_nan.Tie as tie
+use Rattle.normalize.proofs.judging.first_nan.Statement.{statement}
+use Rattle.normalize.proofs.judging.first_nan.Tie as tie
 
 abbrev Inv-loop : tie.InvT-loop
 Inv-loop st hs es hb eb src i₀ i =
-    (i ≤ length src) × Passed (numberAt st hs es hb eb src) i
+    (i ≤ length src) × Passed (resultNumber st hs es hb eb src) i
 
 abbrev μ-loop : tie.MeasureT-loop
 μ-loop st hs es hb eb src i₀ i = length src - i
@@ -27,7 +27,7 @@ is-nan-requires : tie.Need-is-nan-requires Inv-loop μ-loop
 is-nan-requires c κs = search needs
 
 returns : tie.Need-returns Inv-loop μ-loop
-unfolding firstNan
+unfolding firstNanResult
 returns c =
     let at = c .before .before .before .before in
     let n = c .before .is-nan .ensures ∙ ap isNan (c .before .before .result-at .ensures) in
@@ -46,7 +46,7 @@ loop-again c =
     (search needs, below-more _ (at .loop .i) (at .loop .inv .1) (ap not (sym n ∙ c .if1 .left)))
 
 returns-2 : tie.Need-returns-2 Inv-loop μ-loop
-unfolding firstNan
+unfolding firstNanResult
 returns-2 c =
     let at = c .before in
     first-end _ _ (at .loop .i) (at .loop .inv .0) (c .loop-test .left) (at .loop .inv .1)

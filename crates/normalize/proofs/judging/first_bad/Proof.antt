@@ -6,8 +6,8 @@ use borrow.Author.Tests.{not-true, not-false}
 use Rattle.lists.proofs.First.{Passed, first-at, first-end}
 use Rattle.normalize.specs.Normal.{finiteAll, firstBad}
 use borrow.Author.Needs.{needs}
-use Rattle.normalize.proofs.first_bad.Statement.{statement}
-use Rattle.normalize.proofs.first_bad.Tie as tie
+use Rattle.normalize.proofs.judging.first_bad.Statement.{statement}
+use Rattle.normalize.proofs.judging.first_bad.Tie as tie
 
 abbrev Inv-loop : tie.InvT-loop
 Inv-loop hs es hb eb src i₀ i =

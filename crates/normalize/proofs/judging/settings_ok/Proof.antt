@@ -2,8 +2,8 @@ use mathlib.Core.Path.{sym, _∙_}
 use borrow.Author.Tests.{not-true}
 use Rattle.normalize.proofs.Three.{second-no, third-is}
 use borrow.Author.Needs.{needs}
-use Rattle.normalize.proofs.settings_ok.Statement.{statement}
-use Rattle.normalize.proofs.settings_ok.Tie as tie
+use Rattle.normalize.proofs.judging.settings_ok.Statement.{statement}
+use Rattle.normalize.proofs.judging.settings_ok.Tie as tie
 
 is-finite-requires : tie.Need-is-finite-requires
 is-finite-requires c κs = search needs

@@ -5,17 +5,15 @@ use mathlib.Core.List.{List}
 use Prim.Native.Nat.{ℕ}
 use lib.ListN.{length, drop}
 use borrow.Author.Needs.{needs}
-use borrow.Author.Tests.{lt-ltb, le-ltb, not-true}
+use borrow.Author.Tests.{lt-ltb, le-ltb, not-true, not-false}
 use Rattle.answer.specs.Answer.{Test}
 use Rattle.answer.specs.declared.Answer.{Answer}
 use Rattle.answer.specs.declared.Refusal.the-variants.{Domain, Result}
-use Rattle.answer.proofs.Chain.{Gives, clear, stop, skip, found, found-none, gives}
-use Rattle.lists.proofs.First.{first-end}
-use Rattle.normalize.specs.Normal.{tests, Fitted, firstBad, firstNan}
+use Rattle.answer.proofs.Chain.{Gives, clear, stop, skip, found, found-none, none-found, gives}
+use Rattle.normalize.specs.Normal.{tests, Fitted, firstBad, firstNanResult}
 use Rattle.normalize.proofs.Passing.{fit}
-use Rattle.normalize.proofs.Shown.{none-bad, none-nan}
-use Rattle.normalize.proofs.judge.Statement.{statement}
-use Rattle.normalize.proofs.judge.Tie as tie
+use Rattle.normalize.proofs.judging.judge.Statement.{statement}
+use Rattle.normalize.proofs.judging.judge.Tie as tie
 
 abbrev all : tie.Start → List Test
 all c =
@@ -73,22 +71,14 @@ settings-ok-requires c κs = search needs
 returns-4 : tie.Need-returns-4
 returns-4 c = gives (past3 (c .before .before) (stop (ap not (sym (c .before .settings-ok .ensures)) ∙ c .if4 .taken)))
 
-any-not-finite-requires : tie.Need-any-not-finite-requires
-any-not-finite-requires c κs = fitted (c .before .before .before)
+needs-search-requires : tie.Need-needs-search-requires
+needs-search-requires c κs = (fitted (c .before .before .before), sym (c .before .settings-ok .ensures) ∙ not-false _ (c .if4 .left))
 
 returns-5 : tie.Need-returns-5
-unfolding firstBad firstNan
+unfolding firstBad firstNanResult
 returns-5 c =
-    let x = c .before .before .before .before .before .before .before .before .before .before .before .before .args in
-    let s = now (x .src) in
-    let n = length s in
-    let shown = c .before .any-not-finite .ensures (not-true _ (c .if5 .taken)) in
-    let bad = none-bad (x .st) (x .hs) (now (x .es)) (x .hb) (now (x .eb)) s shown in
-    let nans = none-nan (x .st) (x .hs) (now (x .es)) (x .hb) (now (x .eb)) s shown in
-    gives
-    (past4 (c .before .before)
-    (found-none n (first-end _ n n (search needs) (search needs) bad) (search needs)
-    (found-none n (first-end _ n n (search needs) (search needs) nans) (search needs) clear)))
+    let sound = c .before .needs-search .ensures (not-true _ (c .if5 .taken)) in
+    gives (past4 (c .before .before) (none-found (λ i h. sound i h .0) (none-found (λ i h. sound i h .1) clear)))
 
 first-bad-requires : tie.Need-first-bad-requires
 first-bad-requires c κs = fitted (c .before .before .before .before .before)
@@ -116,7 +106,7 @@ judge-spec =
     returns-3
     settings-ok-requires
     returns-4
-    any-not-finite-requires
+    needs-search-requires
     returns-5
     first-bad-requires
     returns-6

@@ -5,8 +5,8 @@ use lib.ListN.{length}
 use Rattle.lists.proofs.First.{Looked, looked-none, looked-more, looked-end}
 use Rattle.normalize.specs.Normal.{resultAt}
 use borrow.Author.Needs.{needs}
-use Rattle.normalize.proofs.any_not_finite.Statement.{statement}
-use Rattle.normalize.proofs.any_not_finite.Tie as tie
+use Rattle.normalize.proofs.judging.any_not_finite_result.Statement.{statement}
+use Rattle.normalize.proofs.judging.any_not_finite_result.Tie as tie
 
 abbrev Inv-loop : tie.InvT-loop
 Inv-loop st hs es hb eb src bad₀ i₀ bad i = (i ≤ length src) × Looked (λ k. finite (resultAt st hs es hb eb src k)) bad i
@@ -37,8 +37,8 @@ loop-again c =
 returns : tie.Need-returns Inv-loop μ-loop
 returns c = looked-end _ _ _ (c .before .loop .i) (c .before .loop .inv .1) (c .loop-test .left)
 
-pub any-not-finite-spec : {M : Type 1} → statement M
-any-not-finite-spec =
+pub any-not-finite-result-spec : {M : Type 1} → statement M
+any-not-finite-result-spec =
     tie.close
     (tie.spec
     Inv-loop

@@ -1,6 +1,6 @@
 use Rattle.floats.proofs.Pattern.{nan-test}
-use Rattle.normalize.proofs.is_nan.Statement.{statement}
-use Rattle.normalize.proofs.is_nan.Tie as tie
+use Rattle.normalize.proofs.judging.is_nan.Statement.{statement}
+use Rattle.normalize.proofs.judging.is_nan.Tie as tie
 
 returns : tie.Need-returns
 returns c = nan-test (c .args .x)
