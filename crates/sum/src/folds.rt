@@ -1,7 +1,7 @@
 // A loop for each sum: none chooses inside.
 ghost use mathlib.Core.List.{map};
 ghost use mathlib.Core.Path.{_≡_};
-ghost use Prim.Native.Nat.{_+_, _≤_, _<_};
+ghost use Prim.Native.Nat.{_≤_};
 ghost use lib.Ieee.{binary32, sub};
 ghost use lib.ListN.{length};
 ghost use Rattle.exp.specs.Exp.{expOf};
@@ -86,33 +86,27 @@ fn sum_by(offset: f32, held: f32, src: &[f32], exponentials: &mut [f32]) -> f32
     sum(held, exponentials)
 }
 
-// A run of elements, few enough for an array.
+// A run of elements.
 fn sum_run(offset: f32, held: f32, src: &[f32]) -> f32
-    requires { ⌜ length (now src) ≤ 64 ⌝ }
+    requires { ⌜ length (now src) ≤ 16 ⌝ }
     ensures { λ r. ⌜ r ≡ sumFrom (SumExpSub offset) held (now (src .entry)) ⌝ }
 {
     let n = src.len();
-    let mut exponentials = [0.0f32; 64];
+    let mut exponentials = [0.0f32; 16];
     sum_by(offset, held, src, &mut exponentials[..n])
 }
 
-// Where the run that begins at i ends.
-fn run_end(i: usize, n: usize) -> usize
-    requires { ⌜ i < n ⌝ }
-    ensures { λ r. ⌜ (i < r) × (r ≤ n) × (r ≤ i + 64) ⌝ }
-{
-    if n - i < 64 { n } else { i + 64 }
-}
-
+// In runs of 16, a length that the compiler then knows, and a shorter one.
 pub fn sum_exp_sub(offset: f32, held: f32, src: &[f32]) -> f32
     ensures { λ r. ⌜ r ≡ sumFrom (SumExpSub offset) held (now (src .entry)) ⌝ }
 {
+    let n = src.len();
     let mut sum = held;
     let mut i = 0;
-    while i < src.len() {
-        let end = run_end(i, src.len());
+    while n - i >= 16 {
+        let end = i + 16;
         sum = sum_run(offset, sum, &src[i..end]);
         i = end;
     }
-    sum
+    sum_run(offset, sum, &src[i..])
 }
