@@ -20,3 +20,4 @@ pub mod Digits
 pub mod Line
 pub mod Each
 pub mod Finite
+pub mod Scaled

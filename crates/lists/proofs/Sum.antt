@@ -1,7 +1,8 @@
 -- Laws of sums by index. Assumes nothing.
 use Prim.Native.Nat.{ℕ, zero, suc, _+_, _*_, _≤_, _<_}
-use mathlib.Core.Path.{_≡_, refl, ap, ap₂}
-use mathlib.Core.Logic.{⊎-elim}
+use mathlib.Core.Path.{_≡_, refl, sym, ap, ap₂}
+use mathlib.Core.Logic.{_⊎_, inl, inr, ⊎-elim}
+use native.Mathlib.Decide.{decLt}
 use native.Mathlib.Nat.{add-zero, add-suc, add-assoc, eq-or-lt-of-le, le-of-suc-le-suc}
 use native.Mathlib.Numerals.{add-one}
 use native.Mathlib.Omega.{arith}
@@ -60,3 +61,31 @@ pub sum-join : (f : ℕ → ℕ) (n m : ℕ) → sumTo f (n + m) ≡ sumTo f n +
 unfolding sumTo
 sum-join f n zero = rw (add-zero n, add-zero (sumTo f n))
 sum-join f n (suc m) = rw (add-suc, sum-join f n m, add-assoc)
+
+-- where every term is at most c
+pub sum-bound : (c : ℕ) (f : ℕ → ℕ) (n : ℕ) → ((i : ℕ) → i < n → f i ≤ c) → sumTo f n ≤ n * c
+sum-bound c f n h = omega (arith, sum-le f (λ i. c) n h, sum-const c n)
+
+-- where every term is 1
+pub sum-ones : (f : ℕ → ℕ) (n : ℕ) → ((i : ℕ) → i < n → f i ≡ 1) → n ≤ sumTo f n
+sum-ones f n h = omega (arith, sum-le (λ i. 1) f n (λ i l. omega (arith, h i l)), sum-const 1 n)
+
+three : (n m : ℕ) → (n < m) ⊎ ((n ≡ m) ⊎ (m < n))
+three n m = elim (decLt n m) [ yes p ↦ inl p | no p ↦ inr (two n m (omega arith)) ]
+  where
+    two : (n m : ℕ) → m ≤ n → (n ≡ m) ⊎ (m < n)
+    two n m h = ⊎-elim (λ (e : m ≡ n). inl (sym e)) (λ (l : m < n). inr l) (eq-or-lt-of-le h)
+
+-- one term is larger by at most 1, and no other is larger: the sum is larger by at most 1
+pub sum-one : (f g : ℕ → ℕ) (n m : ℕ) → f m ≤ g m + 1 → ((j : ℕ) → (j ≡ m → ⊥) → f j ≤ g j)
+    → sumTo f n ≤ sumTo g n + 1
+unfolding sumTo
+sum-one f g zero m s h = omega arith
+sum-one f g (suc n) m s h =
+    ⊎-elim
+    (λ (e : n < m). omega (arith, sum-one f g n m s h, h n (λ q. omega arith)))
+    (λ (w : (n ≡ m) ⊎ (m < n)). ⊎-elim
+    (λ (e : n ≡ m). omega (arith, ap f e, ap g e, sum-le f g n (λ j k. h j (λ q. omega arith))))
+    (λ (k : m < n). omega (arith, sum-one f g n m s h, h n (λ q. omega arith)))
+    w)
+    (three n m)

@@ -1,10 +1,10 @@
--- Laws of lists from a function of the index. Assumes nothing.
+-- Laws of lists from a function of the index, and of equal elements. Assumes nothing.
 use Prim.Native.Nat.{ℕ, zero, suc, _<_}
 use mathlib.Core.Path.{_≡_, refl, sym, ap, _∙_}
 use mathlib.Core.List.{List, [], _∷_, map}
 use native.Mathlib.Nat.{le-of-suc-le-suc, not-suc-le-zero}
 use native.Mathlib.Omega.{arith}
-use lib.ListN.{length, getD}
+use lib.ListN.{length, getD, replicate}
 use lib.Seq.{ext-getD}
 use Rattle.lists.specs.Index.{tab}
 
@@ -38,3 +38,7 @@ pub tab-map : {A B : Type 0} (f : A → B) (z : A) (s : List A) → tab (λ i. f
 unfolding tab
 tab-map f z [] = refl
 tab-map f z (x ∷ s) = ap (λ l. f x ∷ l) (tab-map f z s)
+
+pub map-replicate : {A B : Type 0} (f : A → B) (n : ℕ) (x : A) → map f (replicate n x) ≡ replicate n (f x)
+map-replicate f zero x = refl
+map-replicate f (suc n) x = ap (λ l. f x ∷ l) (map-replicate f n x)

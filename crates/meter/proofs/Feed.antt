@@ -1,7 +1,7 @@
 -- A feeding at each of its returns, and what an accepted feeding has passed. Assumes nothing.
 use Prim.Native.Nat.{ℕ, _+_, _≤_}
 use mathlib.Core.Path.{_≡_, refl, _∙_, ap}
-use mathlib.Core.Bool.{Bool, true, not}
+use mathlib.Core.Bool.{true, not}
 use mathlib.Core.List.{List, [], _∷_}
 use native.Mathlib.Omega.{arith}
 use lib.Dec.{ltb}
@@ -10,7 +10,7 @@ use lib.ListN.{length}
 use borrow.Author.Tests.{ltb-false, le-ltb, not-false}
 use Rattle.lists.proofs.First.{Passed, first-clear}
 use Rattle.floats.specs.Float.{finiteAt, firstNotFinite}
-use Rattle.answer.specs.Answer.{Test, judged}
+use Rattle.answer.specs.Answer.{judged}
 use Rattle.answer.specs.Limits.{elementLimit}
 use Rattle.answer.specs.declared.Answer.{Answer}
 use Rattle.answer.specs.declared.Answer.the-variants.{Done, Refused as No}

@@ -3,8 +3,8 @@
 --     feed-no-nan : (m n : Meter) (s : List Float) → feedOf m s ≡ Next n
 --         → T (not (isNan (n .«sum_squares»))) × T (not (isNan (n .least))) × T (not (isNan (n .largest)))
 use Prim.Native.Nat.{ℕ, _<_}
-use mathlib.Core.Path.{_≡_, refl, sym, subst}
-use mathlib.Core.Bool.{Bool, true, false, not, _&&_}
+use mathlib.Core.Path.{_≡_, sym, subst}
+use mathlib.Core.Bool.{true, not, _&&_}
 use mathlib.Core.List.{List}
 use lib.Dec.{T, T-not, not-T}
 use lib.Ieee.{Float, nan, ofBits, lt, le, isNan}

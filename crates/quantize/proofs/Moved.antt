@@ -1,9 +1,8 @@
 -- What `steps` and `held` find: the cast of the rounded size, and the zero point moved by it. Assumes nothing.
 use mathlib.Core.Path.{_≡_, refl, sym, _∙_, ap, subst}
 use mathlib.Core.Bool.{Bool, true, false, true≢false, false≢true}
-use mathlib.Core.Logic.{inl, inr}
 use Prim.Native.Nat.{ℕ, _+_, _-_, _*_, _^_, _<_, _≤_, min}
-use native.Mathlib.Nat.{zero-mul, mul-le-mul-right, mul-lt-mul-of-pos-right}
+use native.Mathlib.Nat.{zero-mul}
 use native.Mathlib.Omega.{arith}
 use lib.Dec.{T, ltb}
 use lib.IntN.{ℤ}
@@ -12,10 +11,10 @@ use lib.Ieee.Exact.{HasValue}
 use lib.Ieee.Fits.{down-pos}
 use lib.Ieee.Nearest.{closest}
 use lib.Ieee.Back.{unsigned-back}
-use borrow.Author.Tests.{le-leb, lt-ltb, le-ltb, ltb-true, ltb-false}
+use borrow.Author.Tests.{le-leb, ltb-true, ltb-false}
 use Rattle.floats.specs.Float.{absOf, roundEven}
 use Rattle.floats.proofs.Near.{closest-exact}
-use Rattle.floats.proofs.Numbers.{less-or}
+use Rattle.floats.proofs.Numbers.{ltb-times}
 use Rattle.floats.proofs.Pattern.{fits-sign}
 use Rattle.floats.proofs.Whole.{round-even-value}
 use Rattle.consts.specs.Consts.{f32, zeroF}
@@ -30,20 +29,13 @@ abbrev pub sized : Float → Float
 sized y = roundEven binary32 (absOf y)
 
 -- ---- against 256
-times : (n c d : ℕ) → 0 < d → ltb (n * d) (c * d) ≡ ltb n c
-times n c d D =
-    elim (less-or n c) [
-      | inl h ↦ lt-ltb _ _ (mul-lt-mul-of-pos-right h D) ∙ sym (lt-ltb n c h)
-      | inr h ↦ le-ltb _ _ (mul-le-mul-right d h) ∙ sym (le-ltb n c h)
-    ]
-
 -- what has a whole number's value compares as the number does
 at-top : (x : Float) (n : ℕ) → HasValue x false n 1 → lt x top ≡ ltb n 256
 unfolding lt ofBits
 at-top nan n v = absurd v
 at-top (inf s) n v = absurd v
 at-top (fin true m e) n v = absurd (true≢false (v .0))
-at-top (fin false m e) n v = ap (λ z. ltb z (256 * down e)) (v .1) ∙ times n 256 (down e) (down-pos e)
+at-top (fin false m e) n v = ap (λ z. ltb z (256 * down e)) (v .1) ∙ ltb-times n 256 (down e) (down-pos e)
 
 size-at-top : (s : Bool) (m : ℕ) (e : ℤ) → T (fits binary32 (fin s m e))
     → lt (sized (fin s m e)) top ≡ ltb (closest (m * up e) (down e)) 256

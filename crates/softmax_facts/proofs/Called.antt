@@ -19,7 +19,7 @@ use Rattle.consts.specs.Consts.{zeroF, oneF}
 use Rattle.lists.specs.Index.{firstNot, tab}
 use Rattle.lists.proofs.First.{first-clear, first-fails, first-le}
 use Rattle.lists.proofs.Tab.{tab-length, tab-at}
-use Rattle.softmax.specs.Softmax.{isMasked, inDomain, firstOutside, allMasked, weightsOf, resultOf, tests, inPlaceAnswer, inPlaceTold, inPlaceOut, softmaxAnswer, softmaxTold, softmaxOut}
+use Rattle.softmax.specs.Softmax.{isMasked, firstOutside, allMasked, weightsOf, resultOf, tests, inPlaceAnswer, inPlaceTold, inPlaceOut, softmaxAnswer, softmaxTold, softmaxOut}
 use Rattle.softmax.proofs.Domain.{in-domain}
 use Rattle.softmax.proofs.Maximum.{InDomain}
 use Rattle.floats.proofs.Each.{Each, Some}

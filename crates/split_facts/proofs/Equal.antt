@@ -1,9 +1,9 @@
 -- Equal bands: of n equal finite levels, whatever they are, band i gets 32768 / n, and one part more below 32768 % n. Assumes nothing.
-use Prim.Native.Nat.{ℕ, zero, suc, _+_, _*_, _/_, _%_, _≤_, _<_}
-use mathlib.Core.Path.{_≡_, refl, sym, ap, _∙_, subst}
+use Prim.Native.Nat.{ℕ, _+_, _*_, _/_, _%_, _≤_, _<_}
+use mathlib.Core.Path.{_≡_, sym, ap, _∙_, subst}
 use mathlib.Core.Bool.{true, false}
 use mathlib.Core.Logic.{inl, inr}
-use mathlib.Core.List.{List, map, _∷_}
+use mathlib.Core.List.{List, map}
 use native.Mathlib.Nat.{eq-zero-or-pos, mul-zero}
 use native.Mathlib.Omega.{arith}
 use lib.Dec.{T}
@@ -12,16 +12,13 @@ use lib.Ieee.{Float, nan, inf, binary32, mul, div, fits}
 use lib.Ieee.Scale.{finite}
 use Rattle.consts.specs.Consts.{oneF}
 use Rattle.lists.specs.Index.{tab}
+use Rattle.lists.proofs.Tab.{map-replicate}
 use Rattle.softmax.specs.Softmax.{maxOf, expLess, expsOf, sumOf, weightsOf}
 use Rattle.split.specs.Limits.{parts, bandLimit}
 use Rattle.split.specs.Parts.{total, lt1, gainsOf}
 use Rattle.split.specs.Split.{stepsOf, levelSteps}
 use Rattle.split_facts.proofs.Even.{evens-total, evens-gains}
 use Rattle.split_facts.proofs.Splits.{Levels, Splits, levels-total, levels-split}
-
-map-replicate : {A B : Type 0} (f : A → B) (n : ℕ) (x : A) → map f (replicate n x) ≡ replicate n (f x)
-map-replicate f zero x = refl
-map-replicate f (suc n) x = ap (λ l. f x ∷ l) (map-replicate f n x)
 
 -- equal levels have equal steps
 module _ (n : ℕ) (x : Float) where

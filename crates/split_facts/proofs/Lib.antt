@@ -1,4 +1,3 @@
-pub mod Sums
 pub mod Order
 pub mod Nearest
 pub mod Even

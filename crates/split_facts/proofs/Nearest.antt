@@ -10,11 +10,10 @@ use native.Mathlib.Decide.{decLe}
 use native.Mathlib.Nat.{mod-lt, le-of-mul-le-mul-left, mul-le-mul-right, le-dest}
 use lib.ListN.{length}
 use Rattle.lists.specs.Index.{sumTo}
-use Rattle.lists.proofs.Sum.{sum-same, sum-add}
+use Rattle.lists.proofs.Sum.{sum-same, sum-add, sum-bound}
 use Rattle.lists.proofs.Tab.{tab-length, tab-at}
 use Rattle.split.specs.Parts.{at, total, apart, lt1, share, rest, over, rank, gain, gainsOver, distanceOver}
 use Rattle.split.proofs.Shares.{split-at, split-all, shares-fit}
-use Rattle.split_facts.proofs.Sums.{sum-bound}
 use Rattle.split_facts.proofs.Order.{before-lt1, Threshold, threshold}
 
 -- g is no worse than x for one band, y being N a

@@ -9,10 +9,9 @@ use native.Mathlib.Decide.{decLe}
 use native.Mathlib.Nat.{eq-or-lt-of-le, le-of-eq}
 use borrow.Author.Tests.{lt-ltb, le-ltb, eq-eqb, ne-eqb}
 use Rattle.lists.specs.Index.{sumTo}
-use Rattle.lists.proofs.Sum.{sum-same, sum-le, sum-lt}
+use Rattle.lists.proofs.Sum.{sum-same, sum-le, sum-lt, sum-bound, sum-ones, sum-one}
 use Rattle.split.specs.Parts.{lt1, comes}
 use Rattle.split.proofs.Bits.{by-lt, lt1-yes, lt1-no, lt1-small, lt1-mono}
-use Rattle.split_facts.proofs.Sums.{sum-bound, sum-ones, sum-one}
 
 -- the same as `before`: the remainder, one higher for a lower band, is the larger
 pub before-lt1 : (ρ m s j : ℕ) → comes ρ m s j ≡ lt1 ρ (s + lt1 j m)

@@ -4,9 +4,10 @@ use lib.Dec.{T}
 use lib.Ieee.{binary32, mul, ofBits}
 use borrow.Author.Needs.{needs}
 use Rattle.floats.specs.Float.{roundEven}
+use Rattle.floats.proofs.Scaled.{Casts}
 use Rattle.split.specs.Limits.{stepCount}
 use Rattle.split.specs.Split.{stepsOf}
-use Rattle.split.proofs.Steps.{stepsF, Casts, weight-steps}
+use Rattle.split.proofs.Steps.{stepsF, weight-steps}
 use Rattle.split.proofs.steps_of.Statement.{statement}
 use Rattle.split.proofs.steps_of.Tie as tie
 
