@@ -12,7 +12,7 @@ use Rattle.floats.specs.Words.{subWord, truncWord, above0}
 use Rattle.floats.proofs.Monotone.{mul-mono-r, add-mono}
 use Rattle.floats.proofs.Order.{le-trans-f, not-le, not-lt, finite-between}
 use Rattle.floats.proofs.Pattern.{no-nan}
-use Rattle.exp.specs.Exp.{stepsOf, iaOf}
+use Rattle.exp.specs.Exp.{jOf, iaOf}
 use Rattle.floats.proofs.Line.{OnLine, on-line, line-number, line-word}
 
 -- x from -104 to 104
@@ -59,7 +59,7 @@ module _ (x : Float) (r : InRange x) where
   shifted-no-nan = line-number shifted shifted-line
 
   -- its pattern, less that of ROUNDING_MAGIC, is the word of k
-  pub shifted-word : subWord (toBits binary32 shifted) 0x4b40_0000 ≡ truncWord (stepsOf x)
+  pub shifted-word : subWord (toBits binary32 shifted) 0x4b40_0000 ≡ truncWord (jOf x)
   shifted-word = line-word shifted shifted-line (add-fits binary32 (mul binary32 x invLog2) roundingMagic)
 
 -- the low 23 bits of `ia` are zero

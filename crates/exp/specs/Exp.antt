@@ -7,8 +7,8 @@ use Rattle.floats.specs.Float.{mulAdd}
 use Rattle.floats.specs.Words.{addWord, subWord, shl23, above0, truncWord}
 
 -- j, the whole number nearest to x / ln 2
-abbrev pub stepsOf : Float → Float
-stepsOf x = sub binary32 (mulAdd x invLog2 roundingMagic) roundingMagic
+abbrev pub jOf : Float → Float
+jOf x = sub binary32 (mulAdd x invLog2 roundingMagic) roundingMagic
 
 -- r = x - j ln 2, in two parts
 abbrev pub restOf : Float → Float → Float
@@ -31,13 +31,13 @@ unfoldable pub expOf : Float → Float
 expOf x =
     cond (le x expUnderflow) zeroF
     (cond (le expOverflow x) (inf false)
-    (scaleOf (polyOf (restOf x (stepsOf x))) (truncWord (stepsOf x))))
+    (scaleOf (polyOf (restOf x (jOf x))) (truncWord (jOf x))))
 
 -- `ReducedRangeExp`
 unfoldable pub reducedRangeExpOf : Float → Float
 reducedRangeExpOf x =
     cond (lt x expLowerCutoff) zeroF
-    (mul binary32 (polyOf (restOf x (stepsOf x))) (f32 (shl23 (addWord (truncWord (stepsOf x)) 127))))
+    (mul binary32 (polyOf (restOf x (jOf x))) (f32 (shl23 (addWord (truncWord (jOf x)) 127))))
 
 -- `Sigmoid`, `Silu`, `Swish`, `Elu`
 unfoldable pub sigmoidOf : Float → Float

@@ -5,7 +5,7 @@ use mathlib.Core.Bool.{Bool, true, false, not, cond}
 use lib.Dec.{T}
 use lib.Ieee.{Float, inf, add, sub, mul, le, lt, isNan, ofBits, toSigned}
 use Rattle.consts.specs.Consts.{f32, zeroF, oneF, expOverflow, expUnderflow, expLowerCutoff}
-use Rattle.exp.specs.Exp.{stepsOf, expOf, reducedRangeExpOf}
+use Rattle.exp.specs.Exp.{jOf, expOf, reducedRangeExpOf}
 use Rattle.floats.proofs.Order.{le-numbers, le-trans-f, not-le, not-lt}
 use Rattle.floats.proofs.Values.{fin0, fin32}
 use Rattle.floats.proofs.Between.{Between}
@@ -39,7 +39,7 @@ unfolding expOf
 exp-range x n = go (le x expUnderflow) (le expOverflow x) refl refl
   where
     go : (a b : Bool) → le x expUnderflow ≡ a → le expOverflow x ≡ b
-        → ExpRange x (cond a zeroF (cond b (inf false) (expFrom x (stepsOf x))))
+        → ExpRange x (cond a zeroF (cond b (inf false) (expFrom x (jOf x))))
     go true b p q = low-range x
     go false true p q = high-range x (subst T (sym q) tt)
     go false false p q = exp-inside x (not-le x expUnderflow n (numbers .1) p, not-le expOverflow x (numbers .0) n q)
@@ -68,7 +68,7 @@ pub reduced-between : (x : Float) → T (le x zeroF) → Between zeroF oneF (red
 unfolding reducedRangeExpOf ofBits
 reduced-between x h = go (lt x expLowerCutoff) refl
   where
-    go : (b : Bool) → lt x expLowerCutoff ≡ b → Between zeroF oneF (cond b zeroF (reducedFrom x (stepsOf x)))
+    go : (b : Bool) → lt x expLowerCutoff ≡ b → Between zeroF oneF (cond b zeroF (reducedFrom x (jOf x)))
     go true p = in-range .2
     go false p =
         let C = not-lt x expLowerCutoff (le-numbers x zeroF h .0) (numbers .2) p in

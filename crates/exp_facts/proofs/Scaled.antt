@@ -6,7 +6,7 @@ use lib.Dec.{T, eqb, eqb→eq, lit<}
 use lib.Ieee.{Float, binary32, round, add, sub, mul, lt, le, ofBits, toSigned}
 use lib.Ieee.Scale.{finite}
 use Rattle.consts.specs.Consts.{invLog2, roundingMagic, log2Hi, expOverflow, expUnderflow, expLowerCutoff}
-use Rattle.exp.specs.Exp.{stepsOf, restOf, polyOf, scaleOf}
+use Rattle.exp.specs.Exp.{jOf, restOf, polyOf, scaleOf}
 use Rattle.floats.specs.Float.{mulAdd}
 use Rattle.floats.specs.Words.{truncWord}
 use Rattle.floats.proofs.Order.{le-trans-f}
@@ -85,7 +85,7 @@ module _ (x : Float) (b : Between expUnderflow expOverflow x) where
       there : T (not (eqb i 151)) → In i → T (le (expFrom x (steps i)) fin1)
       there n e = le-trans-f (expFrom x (steps i)) (top i) fin1 (in-cell i c e .1) (c .to-0 (le-trans-f (lo i) x fin0 (above-lo x b i c e) N) n)
 
-  pub exp-inside : ExpRange x (expFrom x (stepsOf x))
+  pub exp-inside : ExpRange x (expFrom x (jOf x))
   exp-inside =
       let k = cell-of x b in
       subst (λ (u : Float). ExpRange x (expFrom x (sub binary32 u roundingMagic))) (sym (k .2)) (range (k .0) (cell (k .0) (k .1)) (k .2))
@@ -119,7 +119,7 @@ module _ (x : Float) (b : Between expUnderflow expOverflow x) where
             (poly-between (restOf x j) (rest-between x b i c k)) in
             (m .0, le-trans-f (reducedFrom x j) (mul binary32 polyTop (factor j)) fin1 (m .1) (f .to-1 n))
 
-    pub reduced-inside : Between fin0 fin1 (reducedFrom x (stepsOf x))
+    pub reduced-inside : Between fin0 fin1 (reducedFrom x (jOf x))
     reduced-inside =
         let k = cell-of x b in
         subst (λ (u : Float). Between fin0 fin1 (reducedFrom x (sub binary32 u roundingMagic))) (sym (k .2))

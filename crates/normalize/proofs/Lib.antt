@@ -1,4 +1,3 @@
-pub mod Three
 pub mod Passing
 pub mod NoNan
 pub mod Cases

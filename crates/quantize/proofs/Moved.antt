@@ -18,7 +18,7 @@ use Rattle.floats.proofs.Numbers.{ltb-times}
 use Rattle.floats.proofs.Pattern.{fits-sign}
 use Rattle.floats.proofs.Whole.{round-even-value}
 use Rattle.consts.specs.Consts.{f32, zeroF}
-use Rattle.quantize.specs.Code.{heldOf, stepsOf}
+use Rattle.quantize.specs.Code.{heldOf, codeSteps}
 
 -- 256
 abbrev pub top : Float
@@ -47,7 +47,7 @@ unfolding ofInt inFloat
 cast n h = unsigned-back binary32 32 n (subst T (sym (le-leb n (2 ^ 24) (omega arith))) tt) (omega arith)
 
 cast-steps : (y : Float) → T (fits binary32 y) → lt (sized y) top ≡ true
-    → T (inUnsigned binary32 32 (sized y)) × (toUnsigned 32 (sized y) ≡ stepsOf y)
+    → T (inUnsigned binary32 32 (sized y)) × (toUnsigned 32 (sized y) ≡ codeSteps y)
 unfolding roundEven lt ofBits
 cast-steps nan F h = absurd (false≢true h)
 cast-steps (inf s) F h = absurd (false≢true h)
@@ -57,7 +57,7 @@ cast-steps (fin s m e) F h =
     (k .0, k .1 ∙ omega arith)
 
 -- ---- from 256 on
-all-steps : (y : Float) → T (fits binary32 y) → lt (sized y) top ≡ false → 256 ≡ stepsOf y
+all-steps : (y : Float) → T (fits binary32 y) → lt (sized y) top ≡ false → 256 ≡ codeSteps y
 all-steps nan F h = refl
 all-steps (inf s) F h = refl
 all-steps (fin s m e) F h =
@@ -66,19 +66,19 @@ all-steps (fin s m e) F h =
 
 -- ---- as the code has it: r is y's size, rounded
 module _ (y r : Float) (F : T (fits binary32 y)) (e : r ≡ sized y) where
-  pub below-top : lt r top ≡ true → T (inUnsigned binary32 32 r) × (toUnsigned 32 r ≡ stepsOf y)
+  pub below-top : lt r top ≡ true → T (inUnsigned binary32 32 r) × (toUnsigned 32 r ≡ codeSteps y)
   below-top h = rw e (cast-steps y F (rw e at h))
 
-  pub past-top : lt r top ≡ false → 256 ≡ stepsOf y
+  pub past-top : lt r top ≡ false → 256 ≡ codeSteps y
   past-top h = all-steps y F (rw e at h)
 
 -- ---- the zero point, moved
-pub few : (y : Float) → stepsOf y ≤ 256
+pub few : (y : Float) → codeSteps y ≤ 256
 few nan = omega arith
 few (inf s) = omega arith
 few (fin s m e) = omega arith
 
-pub held-down : (zp : ℕ) (y : Float) → zp ≤ 255 → lt y zeroF ≡ true → zp - stepsOf y ≡ heldOf zp y
+pub held-down : (zp : ℕ) (y : Float) → zp ≤ 255 → lt y zeroF ≡ true → zp - codeSteps y ≡ heldOf zp y
 unfolding lt ofBits heldOf
 held-down zp nan z h = absurd (false≢true h)
 held-down zp (inf true) z h = omega arith
@@ -86,7 +86,7 @@ held-down zp (inf false) z h = absurd (false≢true h)
 held-down zp (fin true m e) z h = omega arith
 held-down zp (fin false m e) z h = absurd (omega (arith, ltb-true (m * up e * 1) (0 * down e) h, zero-mul (down e)))
 
-pub held-up : (zp : ℕ) (y : Float) → zp ≤ 255 → lt y zeroF ≡ false → min (zp + stepsOf y) 255 ≡ heldOf zp y
+pub held-up : (zp : ℕ) (y : Float) → zp ≤ 255 → lt y zeroF ≡ false → min (zp + codeSteps y) 255 ≡ heldOf zp y
 unfolding lt ofBits heldOf
 held-up zp nan z h = omega arith
 held-up zp (inf true) z h = absurd (true≢false h)

@@ -52,7 +52,7 @@ quantizeOut inv zp s d = whenDone (quantizeAnswer inv s d) (map (codeOf inv zp) 
 
 -- ---- for the code
 -- the whole steps from 0 to y, either way, with 256 for all from there on
-abbrev pub stepsOf : Float → ℕ
-stepsOf nan = 256
-stepsOf (inf s) = 256
-stepsOf (fin s m e) = min (closest (m * up e) (down e)) 256
+abbrev pub codeSteps : Float → ℕ
+codeSteps nan = 256
+codeSteps (inf s) = 256
+codeSteps (fin s m e) = min (closest (m * up e) (down e)) 256

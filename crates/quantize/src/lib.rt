@@ -3,7 +3,7 @@ ghost use mathlib.Core.Path.{_≡_};
 ghost use mathlib.Core.List.{map};
 ghost use lib.ListN.{length};
 ghost use Rattle.answer.specs.Answer.{toldOf};
-ghost use Rattle.quantize.specs.Code.{stepsOf, heldOf, codeOf, quantizeTold, quantizeOut};
+ghost use Rattle.quantize.specs.Code.{codeSteps, heldOf, codeOf, quantizeTold, quantizeOut};
 use answer::Answer;
 use answer::ELEMENT_LIMIT;
 use answer::Refusal;
@@ -14,7 +14,7 @@ use floats::scan::first_not_finite;
 
 // How many whole steps y lies from 0, ties to even; 256, which passes every code, stands for all from there on, so no cast can wrap.
 fn steps(y: f32) -> u32
-    ensures { λ r. ⌜ r ≡ stepsOf y ⌝ }
+    ensures { λ r. ⌜ r ≡ codeSteps y ⌝ }
 {
     let size = round_ties_even(abs(y));
     if size < 256.0 {

@@ -2,16 +2,16 @@ use Prim.Native.Nat.{_+_, _-_, min}
 use mathlib.Core.Path.{_≡_}
 use native.Mathlib.Omega.{arith}
 use borrow.Author.Needs.{needs}
-use Rattle.quantize.specs.Code.{stepsOf, heldOf}
+use Rattle.quantize.specs.Code.{codeSteps, heldOf}
 use Rattle.quantize.proofs.Moved.{few, held-down, held-up}
 use Rattle.quantize.proofs.held.Statement.{statement}
 use Rattle.quantize.proofs.held.Tie as tie
 
 -- what is promised below zero, and from zero on
-down : (c : tie.Then1) → (let x = c .before .before .args in x .zero-point - stepsOf (x .y) ≡ heldOf (x .zero-point) (x .y))
+down : (c : tie.Then1) → (let x = c .before .before .args in x .zero-point - codeSteps (x .y) ≡ heldOf (x .zero-point) (x .y))
 down c = held-down _ _ (omega arith) (c .if1 .taken)
 
-up : (c : tie.Else1) → (let x = c .before .before .args in min (x .zero-point + stepsOf (x .y)) 255 ≡ heldOf (x .zero-point) (x .y))
+up : (c : tie.Else1) → (let x = c .before .before .args in min (x .zero-point + codeSteps (x .y)) 255 ≡ heldOf (x .zero-point) (x .y))
 up c = held-up _ _ (omega arith) (c .if1 .left)
 
 steps-requires : tie.Need-steps-requires

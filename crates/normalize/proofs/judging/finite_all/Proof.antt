@@ -1,7 +1,7 @@
 use native.Mathlib.Omega.{arith}
 use mathlib.Core.Path.{sym, _∙_}
 use borrow.Author.Tests.{not-true}
-use Rattle.normalize.proofs.Three.{second-no, third-is}
+use Rattle.lists.proofs.Tests.{second-no, third-is}
 use borrow.Author.Needs.{needs}
 use Rattle.normalize.proofs.judging.finite_all.Statement.{statement}
 use Rattle.normalize.proofs.judging.finite_all.Tie as tie

@@ -1,6 +1,6 @@
 use mathlib.Core.Path.{sym, _∙_}
 use borrow.Author.Tests.{not-true}
-use Rattle.normalize.proofs.Three.{second-no, third-is}
+use Rattle.lists.proofs.Tests.{second-no, third-is}
 use borrow.Author.Needs.{needs}
 use Rattle.normalize.proofs.judging.settings_ok.Statement.{statement}
 use Rattle.normalize.proofs.judging.settings_ok.Tie as tie
