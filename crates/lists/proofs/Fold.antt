@@ -1,17 +1,27 @@
 -- An ordered fold, `foldl`, in a loop: what is left of the fold from the value held at place i is the whole fold. Assumes nothing.
-use Prim.Native.Nat.{ℕ, zero, suc, _+_, _≤_, _<_, suc-le-suc}
+use Prim.Native.Nat.{ℕ, zero, suc, _+_, _-_, _≤_, _<_, suc-le-suc}
 use native.Mathlib.Nat.{zero-lt-suc, not-suc-le-zero, le-of-suc-le-suc}
-use mathlib.Core.Path.{_≡_}
-use mathlib.Core.List.{List, [], _∷_, foldl}
+use mathlib.Core.Path.{_≡_, sym, ap, ap₂, _∙_}
+use mathlib.Core.List.{List, [], _∷_, foldl, foldl-append}
 use native.Mathlib.Numerals.{add-one}
-use lib.ListN.{length, getD, drop, drop-of-length-le}
-use lib.Seq.{drop-cons}
+use native.Mathlib.Omega.{arith}
+use lib.ListN.{length, getD, take, drop, drop-of-length-le, take-append-drop}
+use lib.Seq.{drop-cons, drop-drop}
 
 module _ {A B : Type 0} (f : B → A → B) where
   -- a turn of the loop
   pub fold-more : (s : List A) (z : A) (i : ℕ) (held next : B) → i < length s → next ≡ f held (getD s i z)
       → foldl f next (drop (i + 1) s) ≡ foldl f held (drop i s)
   fold-more s z i held next h e = rw (drop-cons s i z h, add-one, e)
+
+  -- a turn that takes the elements from i to j at once
+  pub fold-run : (s : List A) (i j : ℕ) (held next : B) → i ≤ j → next ≡ foldl f held (take (j - i) (drop i s))
+      → foldl f next (drop j s) ≡ foldl f held (drop i s)
+  fold-run s i j held next h e =
+      let run = take (j - i) (drop i s) in
+      let k : i + (j - i) ≡ j = omega arith in
+      let after : drop j s ≡ drop (j - i) (drop i s) = ap (λ n. drop n s) (sym k) ∙ sym (drop-drop (j - i) i s) in
+      ap₂ (foldl f) e after ∙ sym (foldl-append f held run (drop (j - i) (drop i s))) ∙ ap (foldl f held) (take-append-drop (j - i) (drop i s))
 
   -- the loop has come to the end
   pub fold-end : (s : List A) (i : ℕ) (held : B) → length s ≤ i → held ≡ foldl f held (drop i s)

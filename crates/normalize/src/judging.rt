@@ -115,7 +115,7 @@ fn any_not_finite_result(
     bad
 }
 
-// No where a look shows that all that is in use is finite and all results are numbers.
+// Whether the places are to be searched: no where a look shows that all in use is finite and every result a number.
 // With no per-element slice, and a scale other than zero, finite data gives numbers.
 fn needs_search(st: Settings, hs: bool, es: &[f32], hb: bool, eb: &[f32], src: &[f32]) -> bool
     requires { ⌜ Fitted hs (now es) hb (now eb) (length (now src)) × (settingsOk st ≡ true) ⌝ }

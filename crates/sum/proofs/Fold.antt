@@ -1,15 +1,14 @@
 -- Laws of the sums' fold, once over the sum: in a loop, over joined lists, and from nothing. Assumes nothing.
 use Prim.Native.Nat.{ℕ, _+_, _-_, _≤_, _<_}
-use mathlib.Core.Path.{_≡_, refl, sym, ap, _∙_}
-use mathlib.Core.List.{List, [], _∷_, _++_, map, foldl, foldl-append}
-use native.Mathlib.Omega.{arith}
-use lib.Ieee.{Float, nan}
-use lib.ListN.{length, getD, take, drop, take-append-drop}
-use lib.Seq.{drop-drop}
-use Rattle.lists.proofs.Fold.{fold-more, fold-end}
+use mathlib.Core.Path.{_≡_, refl}
+use mathlib.Core.List.{List, [], _++_, map, foldl-append, foldl-map}
+use lib.Ieee.{Float, nan, binary32, sub}
+use lib.ListN.{length, getD, take, drop}
+use Rattle.lists.proofs.Fold.{fold-more, fold-run, fold-end}
+use Rattle.exp.specs.Exp.{expOf}
 use Rattle.sum.specs.Sum.{stepOf, sumFrom}
 use Rattle.sum.specs.declared.SumOp.{SumOp}
-use Rattle.sum.specs.declared.SumOp.the-variants.{Sum}
+use Rattle.sum.specs.declared.SumOp.the-variants.{Sum, SumExpSub}
 
 module _ (op : SumOp) where
   -- a turn of the loop
@@ -22,13 +21,7 @@ module _ (op : SumOp) where
   pub sum-run : (s : List Float) (i j : ℕ) (held next : Float) → i ≤ j → next ≡ sumFrom op held (take (j - i) (drop i s))
       → sumFrom op next (drop j s) ≡ sumFrom op held (drop i s)
   unfolding sumFrom
-  sum-run s i j held next h e =
-      let k : i + (j - i) ≡ j = omega arith in
-      ap (λ b. foldl (stepOf op) b (drop j s)) e
-      ∙ ap (λ n. foldl (stepOf op) (foldl (stepOf op) held (take (j - i) (drop i s))) (drop n s)) (sym k)
-      ∙ ap (foldl (stepOf op) (foldl (stepOf op) held (take (j - i) (drop i s)))) (sym (drop-drop (j - i) i s))
-      ∙ sym (foldl-append (stepOf op) held (take (j - i) (drop i s)) (drop (j - i) (drop i s)))
-      ∙ ap (foldl (stepOf op) held) (take-append-drop (j - i) (drop i s))
+  sum-run s i j held next h e = fold-run (stepOf op) s i j held next h e
 
   -- and its end
   pub sum-end : (s : List Float) (i : ℕ) (held : Float) → length s ≤ i → held ≡ sumFrom op held (drop i s)
@@ -43,9 +36,7 @@ module _ (op : SumOp) where
   unfolding sumFrom
   sum-none held = refl
 
--- the sum of what g makes of each element is the sum whose steps take g of an element
-pub sum-map : (op : SumOp) (g : Float → Float) → ((held x : Float) → stepOf Sum held (g x) ≡ stepOf op held x) → (held : Float) (s : List Float)
-    → sumFrom Sum held (map g s) ≡ sumFrom op held s
+-- the plain sum of the exponentials
+pub exps-sum : (offset held : Float) (s : List Float) → sumFrom Sum held (map (λ x. expOf (sub binary32 x offset)) s) ≡ sumFrom (SumExpSub offset) held s
 unfolding sumFrom
-sum-map op g e held [] = refl
-sum-map op g e held (x ∷ s) = ap (λ h. foldl (stepOf Sum) h (map g s)) (e held x) ∙ sum-map op g e (stepOf op held x) s
+exps-sum offset held s = foldl-map (λ x. expOf (sub binary32 x offset)) (stepOf Sum) s held
