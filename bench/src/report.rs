@@ -2,26 +2,30 @@
 
 use crate::contender::Who;
 use crate::kernels::{GOAL, Kernel};
-use crate::timing::{SAMPLE_NS, SAMPLES};
+use crate::timing::{Raced, SAMPLE_NS, SAMPLES};
 use std::env::consts::ARCH;
 
 /// Where the ratios are asked.
 pub const ASKED: usize = 1024;
 
-/// The median time of one call in ns for each contender, at one size.
+/// One kernel at one size; ours is the first of the contenders.
 pub struct Line<'a> {
     pub kernel: &'a Kernel,
     pub n: usize,
-    pub times: Vec<(Who, f64)>,
+    pub raced: Vec<(Who, Raced)>,
 }
 
 impl Line<'_> {
+    fn raced(&self, who: Who) -> Option<&Raced> {
+        self.raced.iter().find(|r| r.0 == who).map(|r| &r.1)
+    }
+    /// The median time of one call in ns.
     fn time(&self, who: Who) -> Option<f64> {
-        self.times.iter().find(|t| t.0 == who).map(|t| t.1)
+        Some(self.raced(who)?.ns)
     }
     /// Our time by theirs.
     fn ratio(&self, who: Who) -> Option<f64> {
-        Some(self.time(Who::Ours)? / self.time(who)?)
+        Some(self.raced(who)?.ratio)
     }
     fn asked(&self) -> bool {
         self.kernel.only.is_some() || self.n == ASKED
@@ -90,7 +94,7 @@ fn verdicts(lines: &[Line], who: Who, limit: impl Fn(&Kernel) -> Option<f64>) {
 fn print_about(machine: &str) {
     let ms = SAMPLE_NS / 1e6;
     println!(
-        "A time is the median of {SAMPLES} samples of {ms} ms of the thread's processor time, the contenders taking turns.\n"
+        "A time is the median of {SAMPLES} samples of {ms} ms of the thread's processor time, the contenders taking turns; a ratio is the median of those within a turn.\n"
     );
     if ARCH != machine {
         println!(

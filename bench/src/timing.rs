@@ -1,10 +1,10 @@
-//! Medians of the thread's processor time, the contenders taking turns.
+//! Medians of the thread's processor time and of the ratios to it, the contenders taking turns.
 
 use crate::contender::Contender;
 use crate::job::Job;
 
-pub const SAMPLES: usize = 31;
-pub const SAMPLE_NS: f64 = 2.5e6;
+pub const SAMPLES: usize = 101;
+pub const SAMPLE_NS: f64 = 1e6;
 
 #[repr(C)]
 struct Timespec {
@@ -45,19 +45,23 @@ fn calibrated(contender: &Contender, job: &Job) -> usize {
     }
 }
 
-/// The median time of one call in ns, for each contender.
-pub fn medians(contenders: &[Contender], job: &Job) -> Vec<f64> {
-    let times: Vec<usize> = contenders.iter().map(|c| calibrated(c, job)).collect();
-    let mut samples = vec![vec![]; contenders.len()];
-    for _ in 0..SAMPLES {
-        for (i, contender) in contenders.iter().enumerate() {
-            samples[i].push(spent(contender, job, times[i]) / times[i] as f64);
-        }
-    }
-    samples.iter_mut().map(|s| median(s)).collect()
+/// What one contender takes for a call.
+pub struct Raced {
+    pub ns: f64,
+    /// The first contender's time by this one's, in one turn: a machine that changes its pace changes both.
+    pub ratio: f64,
 }
 
-fn median(samples: &mut [f64]) -> f64 {
+/// For each contender.
+pub fn race(contenders: &[Contender], job: &Job) -> Vec<Raced> {
+    let times: Vec<usize> = contenders.iter().map(|c| calibrated(c, job)).collect();
+    let turn = |_| contenders.iter().zip(&times).map(|(c, &t)| spent(c, job, t) / t as f64).collect();
+    let turns: Vec<Vec<f64>> = (0..SAMPLES).map(turn).collect();
+    let over = |of: &dyn Fn(&[f64]) -> f64| median(turns.iter().map(|t| of(t)).collect());
+    (0..contenders.len()).map(|i| Raced { ns: over(&|t| t[i]), ratio: over(&|t| t[0] / t[i]) }).collect()
+}
+
+fn median(mut samples: Vec<f64>) -> f64 {
     samples.sort_by(f64::total_cmp);
     samples[samples.len() / 2]
 }

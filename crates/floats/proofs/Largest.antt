@@ -65,7 +65,7 @@ fits-between (fin s (suc m) e) f F = let d = down-low binary32 s m e f in size-b
 rounds-within : (m : ℕ) (e : ℤ) {z : Float} (q : Frac) → 0 < q .by → T (fits binary32 (fin false m e)) → Rounds binary32 z q
     → q .over * down e + q .under * down e ≤ m * up e * q .by → Between (fin true m e) (fin false m e) z
 rounds-within m e q C f r h = (
-  rounds-mono binary32 (down-pos e) C (rounds-self binary32 (fin true m e) tt (fits-sign false true m e f)) r (simp zero-mul (omega arith)),
+  rounds-mono binary32 (down-pos e) C (rounds-self binary32 (fin true m e) tt (fits-sign binary32 false true m e f)) r (simp zero-mul (omega arith)),
   rounds-mono binary32 C (down-pos e) r (rounds-self binary32 (fin false m e) tt f) (simp zero-mul (omega arith)),
 )
 
@@ -89,7 +89,7 @@ quotient-shrinks s m e n d f h =
     let l : down d ≤ suc n * up d = omega (arith, simp units at (le→⊑ fin1 (fin false (suc n) d) tt tt h)) in
     rw (eqb·suc-zero n)
     (between-finite (fin true m e) (fin false m e) (round binary32 (unlike s false) (m * up e * down d) (suc n * up d * down e)) tt tt
-    (round-within (unlike s false) (m * up e * down d) (suc n * up d * down e) m e (over-pos n d e) (fits-sign s false m e f)
+    (round-within (unlike s false) (m * up e * down d) (suc n * up d * down e) m e (over-pos n d e) (fits-sign binary32 s false m e f)
     (le-trans (mul-le-mul (mul-le-mul (le-refl (m * up e)) l) (le-refl (down e))) (le-of-eq (mul-assoc (m * up e) (suc n * up d) (down e))))))
 
 pub div-finite : (x y : Float) → T (fits binary32 x) → T (finite x) → T (le fin1 y) → T (finite (div binary32 x y))

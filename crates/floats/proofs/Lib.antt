@@ -15,6 +15,7 @@ pub mod FromOne
 pub mod Largest
 pub mod Formats
 pub mod Pattern
+pub mod Size
 pub mod Whole
 pub mod Digits
 pub mod Line

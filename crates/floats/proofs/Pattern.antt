@@ -5,7 +5,7 @@ use Prim.Native.Nat.{ℕ, zero, suc, _+_, _*_, _/_, _%_, _^_, _<_, _≤_}
 use native.Mathlib.Omega.{arith}
 use lib.Dec.{T, eqb}
 use lib.IntN.{ℤ}
-use lib.Ieee.{Float, nan, inf, fin, up, down, binary32, fits, isNan, nanBits, ofBits, toBits, ne, lt, neg}
+use lib.Ieee.{Float, nan, inf, fin, Format, up, down, binary32, fits, isNan, nanBits, ofBits, toBits, ne, lt, neg}
 use lib.Ieee.Bits.{ofBits-toBits, toBits-lt, nanBits-is, nanBits-above}
 use lib.Ieee.Compare.{differs-from-itself}
 use lib.Ieee.Scale.{finite}
@@ -77,10 +77,10 @@ finite-else x top e h = subst (λ (u : Float). lt x u ≡ false → false ≡ fi
     go (fin s m e) h = cc
 
 -- ---- the sign is the highest bit
-pub fits-sign : (s t : Bool) (m : ℕ) (e : ℤ) → T (fits binary32 (fin s m e)) → T (fits binary32 (fin t m e))
+pub fits-sign : (f : Format) (s t : Bool) (m : ℕ) (e : ℤ) → T (fits f (fin s m e)) → T (fits f (fin t m e))
 unfolding fits
-fits-sign s t zero e f = f
-fits-sign s t (suc m) e f = f
+fits-sign f s t zero e h = h
+fits-sign f s t (suc m) e h = h
 
 sign-on : (m : ℕ) (e : ℤ) → toBits binary32 (fin true m e) ≡ 2 ^ 31 + toBits binary32 (fin false m e)
 unfolding toBits
@@ -91,7 +91,7 @@ sign-room m e f = omega (arith, sign-on m e, toBits-lt binary32 (fin true m e) f
 
 pub sign-off : (s : Bool) (m : ℕ) (e : ℤ) → T (fits binary32 (fin s m e)) → toBits binary32 (fin s m e) % 2 ^ 31 ≡ toBits binary32 (fin false m e)
 sign-off true m e f = omega (arith, sign-on m e, sign-room m e f)
-sign-off false m e f = omega (arith, sign-room m e (fits-sign false true m e f))
+sign-off false m e f = omega (arith, sign-room m e (fits-sign binary32 false true m e f))
 
 -- what the highest bit of a pattern says of the sign
 abbrev pub SignBit : Bool → ℕ → Type 0
@@ -102,14 +102,14 @@ pub sign-is : (s t : Bool) (m : ℕ) (e : ℤ) → T (fits binary32 (fin s m e))
 sign-is false false m e f h = refl
 sign-is true true m e f h = refl
 sign-is true false m e f h = absurd (omega (arith, sign-on m e))
-sign-is false true m e f h = absurd (omega (arith, sign-room m e (fits-sign false true m e f)))
+sign-is false true m e f h = absurd (omega (arith, sign-room m e (fits-sign binary32 false true m e f)))
 
 pub abs-bits : (x : Float) → T (fits binary32 x) → T (not (isNan x)) → ofBits binary32 (toBits binary32 x % 2 ^ 31) ≡ absOf x
 unfolding isNan toBits ofBits
 abs-bits nan f n = absurd n
 abs-bits (inf true) f n = refl
 abs-bits (inf false) f n = refl
-abs-bits (fin s m e) f n = ap (ofBits binary32) (sign-off s m e f) ∙ ofBits-toBits binary32 (fin false m e) (fits-sign s false m e f)
+abs-bits (fin s m e) f n = ap (ofBits binary32) (sign-off s m e f) ∙ ofBits-toBits binary32 (fin false m e) (fits-sign binary32 s false m e f)
 
 pub abs-no-nan : (x : Float) → T (fits binary32 x) → T (not (isNan x)) → T (not (nanBits binary32 (toBits binary32 x % 2 ^ 31)))
 unfolding isNan

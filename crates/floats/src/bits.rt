@@ -43,6 +43,14 @@ pub fn abs(x: f32) -> f32
     f32::from_bits(f32::to_bits(x) % 0x80000000)
 }
 
+// The same by order, +0 of the two zeros: fewer operations, but a choice that keeps a longer function out of lanes.
+pub fn abs_by_order(x: f32) -> f32
+    ensures { λ r. ⌜ r ≡ absOf x ⌝ }
+{
+    let minus = 0.0 - x;
+    if x > minus { x } else { minus }
+}
+
 pub fn is_finite(x: f32) -> bool
     ensures { λ r. ⌜ r ≡ finite x ⌝ }
 {

@@ -39,7 +39,7 @@ at-top (fin false m e) n v = ap (λ z. ltb z (256 * down e)) (v .1) ∙ ltb-time
 
 size-at-top : (s : Bool) (m : ℕ) (e : ℤ) → T (fits binary32 (fin s m e))
     → lt (sized (fin s m e)) top ≡ ltb (closest (m * up e) (down e)) 256
-size-at-top s m e F = at-top (sized (fin s m e)) (closest (m * up e) (down e)) (round-even-value binary32 false m e (fits-sign s false m e F))
+size-at-top s m e F = at-top (sized (fin s m e)) (closest (m * up e) (down e)) (round-even-value binary32 false m e (fits-sign binary32 s false m e F))
 
 -- a whole number below 256 casts to itself
 cast : (n : ℕ) → n < 256 → T (inUnsigned binary32 32 (round binary32 false n 1)) × (toUnsigned 32 (round binary32 false n 1) ≡ n)

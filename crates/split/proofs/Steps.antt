@@ -61,5 +61,5 @@ weight-steps (fin true m e) r F b q =
     let n : m * up e ≡ 0 = omega (arith, le→⊑ zeroF (fin true m e) tt tt (b .0)) in
     let h : m * up e ≤ down e = omega arith in
     let same : steps m e ≡ closest (0 * stepCount) (down e) = ap (λ k. closest (k * stepCount) (down e)) n in
-    let G = fits-sign true false m e F in
+    let G = fits-sign binary32 true false m e F in
     (rw (q, sym same) (steps-cast m e G h), rw (sym same) (steps-few m e G h))
