@@ -11,7 +11,7 @@ use consts::GELU_CUBE;
 use consts::SQRT_2_PI;
 use consts::SQRT_2_RCP;
 use exp::reduced_range_exp;
-use floats::bits::abs;
+use floats::bits::abs_by_order;
 use tanh::tanh;
 
 fn ratio(size: f32) -> f32
@@ -40,7 +40,7 @@ fn of_size(size: f32) -> f32
 pub fn erf(x: f32) -> f32
     ensures { λ r. ⌜ r ≡ erfOf x ⌝ }
 {
-    let y = of_size(abs(x));
+    let y = of_size(abs_by_order(x));
     if x < 0.0 { -y } else { y }
 }
 

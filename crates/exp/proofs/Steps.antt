@@ -1,17 +1,19 @@
 -- For x from -104 to 104 the pattern of x * INV_LOG2 + ROUNDING_MAGIC, less that of ROUNDING_MAGIC, is the word of k. Assumes nothing.
-use mathlib.Core.Path.{_≡_, refl}
+use mathlib.Core.Path.{_≡_, refl, sym, ap, _∙_, subst}
+use mathlib.Core.Logic.{_⊎_, inl, inr}
 use mathlib.Core.Bool.{Bool, true, false, cond, not}
 use Prim.Native.Nat.{ℕ, _%_, _^_}
 use lib.Dec.{T}
 use lib.IntN.{pos}
-use lib.Ieee.{Float, fin, binary32, add, mul, sum, ne, lt, le, eq, isNan, ofBits, toBits}
+use lib.Ieee.{Float, nan, inf, fin, binary32, add, mul, sum, lt, le, eq, isNan, ofBits, toBits}
+use lib.Ieee.Bits.{is-true}
 use lib.Ieee.Fits.{add-fits}
 use Rattle.consts.specs.Consts.{zeroF, invLog2, roundingMagic, expOverflow, expUnderflow, expLowerCutoff}
 use Rattle.floats.specs.Float.{mulAdd}
 use Rattle.floats.specs.Words.{subWord, truncWord, above0}
 use Rattle.floats.proofs.Monotone.{mul-mono-r, add-mono}
-use Rattle.floats.proofs.Order.{le-trans-f, not-le, not-lt, finite-between}
-use Rattle.floats.proofs.Pattern.{no-nan}
+use Rattle.floats.proofs.NoNan.{add-number, mul-number}
+use Rattle.floats.proofs.Order.{le-numbers, le-trans-f, not-le, not-lt, finite-between}
 use Rattle.exp.specs.Exp.{jOf, iaOf}
 use Rattle.floats.proofs.Line.{OnLine, on-line, line-number, line-word}
 
@@ -19,18 +21,63 @@ use Rattle.floats.proofs.Line.{OnLine, on-line, line-number, line-word}
 abbrev pub InRange : Float → Type 0
 InRange x = T (le expUnderflow x) × T (le x expOverflow)
 
--- past the three tests of `exp`
-pub exp-range : (x : Float) → le x expUnderflow ≡ false → le expOverflow x ≡ false → ne x x ≡ false → InRange x
-unfolding isNan ofBits
-exp-range x lo hi n = (not-le x expUnderflow (no-nan x n) tt lo, not-le expOverflow x tt (no-nan x n) hi)
+-- what is read in place of x: x itself, in range, or the least for a NaN
+abbrev pub Reads : Float → Float → Float → Type 0
+Reads least x y = ((y ≡ x) × InRange x) ⊎ ((x ≡ nan) × (y ≡ least))
 
--- past the two tests of `reduced_range_exp`, x not above zero
-pub reduced-range : (x : Float) → lt zeroF x ≡ false → lt x expLowerCutoff ≡ false → ne x x ≡ false → InRange x
+reads-number : (least x y : Float) → y ≡ cond (le least x) x least → T (le least x) → T (le expUnderflow x) → T (le x expOverflow) → Reads least x y
+reads-number least x y e at lo hi = inl (e ∙ ap (λ b. cond b x least) (is-true (le least x) at), (lo, hi))
+
+exp-number : (x y : Float) → T (not (isNan x)) → le x expUnderflow ≡ false → le expOverflow x ≡ false → y ≡ cond (le expUnderflow x) x expUnderflow
+    → Reads expUnderflow x y
+unfolding isNan ofBits
+exp-number x y N lo hi e =
+    let at = not-le x expUnderflow N tt lo in
+    reads-number expUnderflow x y e at at (not-le expOverflow x tt N hi)
+
+reduced-number : (x y : Float) → T (not (isNan x)) → lt zeroF x ≡ false → lt x expLowerCutoff ≡ false
+    → y ≡ cond (le expLowerCutoff x) x expLowerCutoff → Reads expLowerCutoff x y
 unfolding isNan ofBits le lt eq
-reduced-range x z lo n = (
-  le-trans-f expUnderflow expLowerCutoff x tt (not-lt x expLowerCutoff (no-nan x n) tt lo),
-  le-trans-f x zeroF expOverflow (not-lt zeroF x tt (no-nan x n) z) tt,
-)
+reduced-number x y N z lo e =
+    let at = not-lt x expLowerCutoff N tt lo in
+    reads-number expLowerCutoff x y e at (le-trans-f expUnderflow expLowerCutoff x tt at) (le-trans-f x zeroF expOverflow (not-lt zeroF x tt N z) tt)
+
+-- what `exp_within` takes
+pub exp-reads : (x y : Float) → le x expUnderflow ≡ false → le expOverflow x ≡ false → y ≡ cond (le expUnderflow x) x expUnderflow
+    → Reads expUnderflow x y
+unfolding isNan ofBits
+exp-reads nan y lo hi e = inr (refl, unfold le lt eq in e)
+exp-reads (inf s) y lo hi e = exp-number (inf s) y tt lo hi e
+exp-reads (fin s m d) y lo hi e = exp-number (fin s m d) y tt lo hi e
+
+-- past the test of `reduced_range_exp`, x not above zero
+pub reduced-reads : (x y : Float) → lt zeroF x ≡ false → lt x expLowerCutoff ≡ false → y ≡ cond (le expLowerCutoff x) x expLowerCutoff
+    → Reads expLowerCutoff x y
+unfolding isNan ofBits
+reduced-reads nan y z lo e = inr (refl, unfold le lt eq in e)
+reduced-reads (inf s) y z lo e = reduced-number (inf s) y tt z lo e
+reduced-reads (fin s m d) y z lo e = reduced-number (fin s m d) y tt z lo e
+
+pub reads-range : (least x y : Float) → InRange least → Reads least x y → InRange y
+reads-range least x y r (inl h) = subst InRange (sym (h .0)) (h .1)
+reads-range least x y r (inr h) = subst InRange (sym (h .1)) r
+
+-- what is read is a number, past the ends too, and so is the sum whose pattern it is
+pub read-number : (least x y : Float) → T (not (isNan least)) → y ≡ cond (le least x) x least → T (not (isNan (mulAdd y invLog2 roundingMagic)))
+unfolding ofBits isNan
+read-number least x y L e =
+    add-number binary32 (mul binary32 y invLog2) roundingMagic
+    (mul-number binary32 y invLog2 (subst (λ (z : Float). T (not (isNan z))) (sym e) (go (le least x) (λ t. le-numbers least x t .1))) tt
+    (inr (unfold eq in tt)) (inl tt)) tt (inr tt)
+  where
+    go : (b : Bool) → (T b → T (not (isNan x))) → T (not (isNan (cond b x least)))
+    go true h = h tt
+    go false h = L
+
+-- what is worked out from both doesn't show it, where a NaN comes through
+pub reads-same : (g : Float → Float → Float) (least x y : Float) → g nan least ≡ g nan nan → Reads least x y → g x y ≡ g x x
+reads-same g least x y n (inl h) = ap (g x) (h .0)
+reads-same g least x y n (inr h) = rw (h .0, h .1) n
 
 -- ---- the sum
 module _ (x : Float) (r : InRange x) where

@@ -1,8 +1,8 @@
 // exp.rs of rten-vecmath, one element at a time. For the crates above.
-ghost use mathlib.Core.Bool.{false};
+ghost use mathlib.Core.Bool.{false, cond};
 ghost use mathlib.Core.Path.{_≡_};
-ghost use lib.Ieee.{lt};
-ghost use Rattle.consts.specs.Consts.{zeroF};
+ghost use lib.Ieee.{lt, le};
+ghost use Rattle.consts.specs.Consts.{zeroF, expUnderflow, expOverflow};
 ghost use Rattle.exp.specs.Exp.{iaOf, restOf, polyOf, scaleOf, expOf, reducedRangeExpOf, sigmoidOf, siluOf, swishOf, eluOf};
 use consts::EXP_LOWER_CUTOFF;
 use consts::EXP_OVERFLOW;
@@ -61,7 +61,24 @@ fn scale(p: f32, k: u32) -> f32
     p * s * t
 }
 
-// Between the two ends x times INV_LOG2 plus the magic number is a whole number whose pattern counts it, so k is a difference of words.
+// x, but the least in place of a NaN or of what lies below it.
+fn at_least(least: f32, x: f32) -> f32
+    ensures { λ r. ⌜ r ≡ cond (le least x) x least ⌝ }
+{
+    if x >= least { x } else { least }
+}
+
+// For x between the two ends, or a NaN; past them it is worked out too, and no exponential. Between them x times INV_LOG2 plus the magic
+// number is a whole number whose pattern counts it, so k is a difference of words. A NaN has no pattern to read: k is then that of the
+// lower end, and the NaN comes back by `rest`.
+pub fn exp_within(x: f32) -> f32
+    ensures { λ r. ⌜ (le x expUnderflow ≡ false → le expOverflow x ≡ false → r ≡ expOf x) ⌝ }
+{
+    let s = at_least(EXP_UNDERFLOW, x) * INV_LOG2 + ROUNDING_MAGIC;
+    let k = sub_word(f32::to_bits(s), 0x4b400000);
+    scale(poly(rest(x, s - ROUNDING_MAGIC)), k)
+}
+
 pub fn exp(x: f32) -> f32
     ensures { λ r. ⌜ r ≡ expOf x ⌝ }
 {
@@ -71,12 +88,7 @@ pub fn exp(x: f32) -> f32
     if x >= EXP_OVERFLOW {
         return infinity();
     }
-    if x != x {
-        return x;
-    }
-    let s = x * INV_LOG2 + ROUNDING_MAGIC;
-    let k = sub_word(f32::to_bits(s), 0x4b400000);
-    scale(poly(rest(x, s - ROUNDING_MAGIC)), k)
+    exp_within(x)
 }
 
 // For x at most zero, minus infinity among it, or a NaN.
@@ -87,10 +99,7 @@ pub fn reduced_range_exp(x: f32) -> f32
     if x < EXP_LOWER_CUTOFF {
         return 0.0;
     }
-    if x != x {
-        return x;
-    }
-    let s = x * INV_LOG2 + ROUNDING_MAGIC;
+    let s = at_least(EXP_LOWER_CUTOFF, x) * INV_LOG2 + ROUNDING_MAGIC;
     let k = sub_word(f32::to_bits(s), 0x4b400000);
     poly(rest(x, s - ROUNDING_MAGIC)) * f32::from_bits(shl_23(add_word(k, 127)))
 }

@@ -9,7 +9,7 @@ use consts::TANH_P7;
 use consts::TANH_P9;
 use consts::TANH_SMALL;
 use consts::TANH_TINY;
-use exp::exp;
+use exp::exp_within;
 use floats::bits::abs;
 
 fn small(square: f32, size: f32) -> f32
@@ -33,7 +33,7 @@ fn chosen(x: f32, size: f32) -> f32
     ensures { λ r. ⌜ r ≡ sizeOf x size ⌝ }
 {
     let low = small(x * x, size);
-    let high = medium(exp(size * 2.0));
+    let high = medium(exp_within(size * 2.0));
     if size <= TANH_TINY {
         return size;
     }

@@ -1,30 +1,40 @@
-use mathlib.Core.Path.{_≡_, refl, sym, subst}
+use mathlib.Core.Path.{_≡_, refl}
 use native.Mathlib.Omega.{arith}
-use lib.Ieee.{nan, add, sub, mul, sum, lt, ofBits}
+use lib.Ieee.{Float, nan, binary32, add, sub, mul, sum, lt, le, eq, ofBits}
 use borrow.Author.Needs.{needs}
-use Rattle.floats.proofs.Pattern.{is-nan, low-zero}
-use Rattle.exp.specs.Exp.{reducedRangeExpOf}
-use Rattle.exp.proofs.Steps.{InRange, reduced-range, shifted-no-nan, shifted-word}
+use Rattle.consts.specs.Consts.{f32, expLowerCutoff}
+use Rattle.floats.specs.Words.{addWord, shl23, truncWord}
+use Rattle.floats.proofs.Pattern.{low-zero}
+use Rattle.exp.specs.Exp.{jOf, restOf, polyOf, reducedRangeExpOf}
+use Rattle.exp.proofs.Steps.{InRange, Reads, reduced-reads, reads-range, reads-same, shifted-no-nan, shifted-word}
 use Rattle.exp.proofs.reduced_range_exp.Statement.{statement}
 use Rattle.exp.proofs.reduced_range_exp.Tie as tie
 
--- past the two tests
-range : (c : tie.Else2) → InRange (c .before .before .args .x)
-range c = reduced-range (c .before .before .args .x) (c .before .before .pre) (c .before .if1 .left) (c .if2 .left)
+-- past the test
+reads : (c : tie.After-at-least) → Reads expLowerCutoff (c .before .before .args .x) (c .at-least .result)
+reads c = reduced-reads _ _ (c .before .before .pre) (c .before .if1 .left) (c .at-least .ensures)
 
-of-nan : nan ≡ reducedRangeExpOf nan
-unfolding reducedRangeExpOf lt add sub mul sum ofBits
-of-nan = refl
+range : (c : tie.After-at-least) → InRange (c .at-least .result)
+unfolding ofBits le lt eq
+range c = reads-range expLowerCutoff _ _ (tt, tt) (reads c)
+
+-- the last step, with k and j from y
+abbrev ended : Float → Float → Float
+ended x y = mul binary32 (polyOf (restOf x (jOf y))) (f32 (shl23 (addWord (truncWord (jOf y)) 127)))
+
+ended-nan : ended nan expLowerCutoff ≡ ended nan nan
+unfolding add sub mul sum ofBits
+ended-nan = refl
 
 returns : tie.Need-returns
 unfolding reducedRangeExpOf
 returns c = simp (c .if1 .taken)
 
-returns-2 : tie.Need-returns-2
-returns-2 c = subst (λ y. y ≡ reducedRangeExpOf y) (sym (is-nan (c .before .before .args .x) (c .if2 .taken))) of-nan
+at-least-requires : tie.Need-at-least-requires
+at-least-requires c κs = search needs
 
 float-to-bits-sub-word : tie.Need-float-to-bits-sub-word
-float-to-bits-sub-word c = shifted-no-nan (c .before .before .args .x) (range c)
+float-to-bits-sub-word c = shifted-no-nan (c .at-least .result) (range c)
 
 sub-word-requires : tie.Need-sub-word-requires
 sub-word-requires c κs = search needs
@@ -44,18 +54,18 @@ shl-23-requires c κs = search needs
 float-from-bits-result : tie.Need-float-from-bits-result
 float-from-bits-result c = low-zero (c .shl-23 .result) (omega arith)
 
-returns-3 : tie.Need-returns-3
+returns-2 : tie.Need-returns-2
 unfolding reducedRangeExpOf
-returns-3 c =
+returns-2 c =
     let at = c .before .before .before .before .before in
-    simp (at .before .if1 .left) (cc (shifted-word (at .before .before .args .x) (range at)))
+    simp (at .before .if1 .left) (cc (shifted-word (at .at-least .result) (range at), reads-same ended _ _ _ ended-nan (reads at)))
 
 pub reduced-range-exp-spec : {M : Type 1} → statement M
 reduced-range-exp-spec =
     tie.close
     (tie.spec
     returns
-    returns-2
+    at-least-requires
     float-to-bits-sub-word
     sub-word-requires
     rest-requires
@@ -63,4 +73,4 @@ reduced-range-exp-spec =
     add-word-requires
     shl-23-requires
     float-from-bits-result
-    returns-3)
+    returns-2)

@@ -1,13 +1,14 @@
 use borrow.Author.Needs.{needs}
 use Rattle.tanh.specs.Tanh.{sizeOf}
+use Rattle.tanh.proofs.Doubled.{doubled-within}
 use Rattle.tanh.proofs.chosen.Statement.{statement}
 use Rattle.tanh.proofs.chosen.Tie as tie
 
 small-requires : tie.Need-small-requires
 small-requires c κs = search needs
 
-exp-requires : tie.Need-exp-requires
-exp-requires c κs = search needs
+exp-within-requires : tie.Need-exp-within-requires
+exp-within-requires c κs = search needs
 
 medium-requires : tie.Need-medium-requires
 medium-requires c κs = search needs
@@ -26,9 +27,13 @@ returns-3 c = simp (c .before .before .if1 .left, c .before .if2 .left, c .if3 .
 
 returns-4 : tie.Need-returns-4
 unfolding sizeOf
-returns-4 c = simp (c .before .before .if1 .left, c .before .if2 .left, c .if3 .left) (cc)
+returns-4 c =
+    let at = c .before .before .before .before in
+    let w = doubled-within (at .before .before .args .size) (c .before .if2 .left) (c .if3 .left) in
+    let e = at .exp-within .ensures (w .0) (w .1) in
+    simp (c .before .before .if1 .left, c .before .if2 .left, c .if3 .left) (cc e)
 
 pub chosen-spec : {M : Type 1} → statement M
 chosen-spec =
     tie.close
-    (tie.spec small-requires exp-requires medium-requires returns returns-2 returns-3 returns-4)
+    (tie.spec small-requires exp-within-requires medium-requires returns returns-2 returns-3 returns-4)
