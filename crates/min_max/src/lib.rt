@@ -2,10 +2,16 @@
 ghost use mathlib.Core.Bool.{true, false};
 ghost use mathlib.Core.Path.{_≡_};
 ghost use Prim.Native.Nat.{ℕ, _<_};
-ghost use lib.Ieee.{lt};
 ghost use lib.ListN.{length};
-ghost use Rattle.min_max.specs.MinMax.{keep, leastFrom, largestFrom, numberAt, firstNan};
+ghost use Rattle.min_max.specs.MinMax.{leastFrom, largestFrom, numberAt, firstNan};
 ghost use Rattle.min_max.specs.MinMax.{extremesTold, extremeTold, minMaxTold, maxNumTold, minNumTold};
+
+mod folds;
+
+use crate::folds::largest_four;
+use crate::folds::largest_on;
+use crate::folds::look_four;
+use crate::folds::look_on;
 use answer::Answer;
 use answer::ELEMENT_LIMIT;
 use answer::Refusal;
@@ -29,30 +35,22 @@ pub struct Seen {
     pub nan: bool,
 }
 
-// The next held value: x where it lies strictly beyond the held one.
-fn lower(held: f32, x: f32) -> f32
-    ensures { λ r. ⌜ r ≡ keep (λ y h. lt y h) held x ⌝ }
-{
-    if x < held { x } else { held }
-}
-
-fn higher(held: f32, x: f32) -> f32
-    ensures { λ r. ⌜ r ≡ keep (λ y h. lt h y) held x ⌝ }
-{
-    if x > held { x } else { held }
-}
-
 // The held value or the largest element, the first of equal ones. For the crates above.
 pub fn largest_from(held: f32, src: &[f32]) -> f32
     ensures { λ r. ⌜ r ≡ largestFrom held (now (src .entry)) ⌝ }
 {
-    let mut largest = held;
-    let mut i = 0;
-    while i < src.len() {
-        largest = higher(largest, src[i]);
-        i += 1;
-    }
-    largest
+    let one = src.len() / 4;
+    let two = one * 2;
+    let three = one * 3;
+    let four = one * 4;
+    let largest = largest_four(
+        held,
+        &src[..one],
+        &src[one..two],
+        &src[two..three],
+        &src[three..four],
+    );
+    largest_on(largest, &src[four..])
 }
 
 // Both extremes from held values on, and whether an element is a NaN, in one pass. For the crates above.
@@ -61,21 +59,23 @@ pub fn look(least: f32, largest: f32, src: &[f32]) -> Seen
     ensures high { λ r. ⌜ r .largest ≡ largestFrom largest (now (src .entry)) ⌝ }
     ensures numbers { λ r. ⌜ (r .nan ≡ false → (i : ℕ) → i < length (now (src .entry)) → numberAt (now (src .entry)) i ≡ true) ⌝ }
 {
-    let mut low = least;
-    let mut high = largest;
-    let mut nan = false;
-    let mut i = 0;
-    while i < src.len() {
-        let x = src[i];
-        low = lower(low, x);
-        high = higher(high, x);
-        nan = nan | (x != x);
-        i += 1;
-    }
+    let one = src.len() / 4;
+    let two = one * 2;
+    let three = one * 3;
+    let four = one * 4;
+    let runs = look_four(
+        least,
+        largest,
+        &src[..one],
+        &src[one..two],
+        &src[two..three],
+        &src[three..four],
+    );
+    let rest = look_on(runs.least, runs.largest, &src[four..]);
     Seen {
-        least: low,
-        largest: high,
-        nan,
+        least: rest.least,
+        largest: rest.largest,
+        nan: runs.nan | rest.nan,
     }
 }
 

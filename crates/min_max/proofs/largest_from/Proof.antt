@@ -1,57 +1,105 @@
-use Prim.Native.Nat.{_-_, _≤_}
-use mathlib.Core.Path.{_≡_, refl, _∙_}
-use lib.ListN.{length, drop}
-use Rattle.min_max.specs.MinMax.{largestFrom}
-use Rattle.min_max.proofs.Fold.{extreme-more, extreme-end}
+use native.Mathlib.Omega.{arith}
+use lib.ListN.{length-take, length-drop}
+use Rattle.min_max.proofs.Runs.{extreme-parted}
 use borrow.Author.Needs.{needs}
 use Rattle.min_max.proofs.largest_from.Statement.{statement}
 use Rattle.min_max.proofs.largest_from.Tie as tie
 
-abbrev Inv-loop : tie.InvT-loop
-Inv-loop held src largest₀ i₀ largest i = (i ≤ length src) × (largestFrom largest (drop i src) ≡ largestFrom largest₀ src)
+mul-two : tie.Need-mul-two
+mul-two c = search needs
 
-abbrev μ-loop : tie.MeasureT-loop
-μ-loop held src largest₀ i₀ largest i = length src - i
+mul-three : tie.Need-mul-three
+mul-three c = search needs
 
-loop-holds : tie.Need-loop-holds Inv-loop μ-loop
-loop-holds c = (search needs, refl)
+mul-four : tie.Need-mul-four
+mul-four c = search needs
 
-mul-higher : tie.Need-mul-higher Inv-loop μ-loop
-mul-higher c = search needs
+slice-aggregate-largest-four : tie.Need-slice-aggregate-largest-four
+slice-aggregate-largest-four c = simp length-take (omega arith)
 
-shared-slice-read-higher : tie.Need-shared-slice-read-higher Inv-loop μ-loop
-shared-slice-read-higher c = search needs
+mul-largest-four : tie.Need-mul-largest-four
+mul-largest-four c = search needs
 
-higher-requires : tie.Need-higher-requires Inv-loop μ-loop
-higher-requires c κs = search needs
+sub-largest-four : tie.Need-sub-largest-four
+sub-largest-four c = search needs
 
-add-i : tie.Need-add-i Inv-loop μ-loop
-add-i c = search needs
+part-largest-four-start : tie.Need-part-largest-four-start
+part-largest-four-start c = search needs
 
-loop-less : tie.Need-loop-less Inv-loop μ-loop
-loop-less c = search needs
+part-largest-four-end : tie.Need-part-largest-four-end
+part-largest-four-end c = search needs
 
-loop-again : tie.Need-loop-again Inv-loop μ-loop
-loop-again c =
-    let l = c .before .before .before in
-    (search needs, extreme-more _ (l .before .before .args .src .now) (l .loop .i) (l .loop .largest) _ (c .before .before .loop-test .taken) (c .higher .ensures) ∙ l .loop .inv .1)
+mul-largest-four-2 : tie.Need-mul-largest-four-2
+mul-largest-four-2 c = search needs
 
-returns : tie.Need-returns Inv-loop μ-loop
+sub-largest-four-2 : tie.Need-sub-largest-four-2
+sub-largest-four-2 c = search needs
+
+part-largest-four-start-2 : tie.Need-part-largest-four-start-2
+part-largest-four-start-2 c = search needs
+
+part-largest-four-end-2 : tie.Need-part-largest-four-end-2
+part-largest-four-end-2 c = search needs
+
+mul-largest-four-3 : tie.Need-mul-largest-four-3
+mul-largest-four-3 c = search needs
+
+sub-largest-four-3 : tie.Need-sub-largest-four-3
+sub-largest-four-3 c = search needs
+
+part-largest-four-start-3 : tie.Need-part-largest-four-start-3
+part-largest-four-start-3 c = search needs
+
+part-largest-four-end-3 : tie.Need-part-largest-four-end-3
+part-largest-four-end-3 c = search needs
+
+largest-four-requires : tie.Need-largest-four-requires
+largest-four-requires c κs = simp (length-take, length-drop) (omega arith)
+
+mul-largest-on : tie.Need-mul-largest-on
+mul-largest-on c = search needs
+
+sub-largest-on : tie.Need-sub-largest-on
+sub-largest-on c = search needs
+
+part-largest-on-start : tie.Need-part-largest-on-start
+part-largest-on-start c = search needs
+
+part-largest-on-end : tie.Need-part-largest-on-end
+part-largest-on-end c = search needs
+
+largest-on-requires : tie.Need-largest-on-requires
+largest-on-requires c κs = search needs
+
+returns : tie.Need-returns
 returns c =
-    let l = c .before in
-    extreme-end _ (l .before .before .args .src .now) (l .loop .i) (l .loop .largest) (c .loop-test .left) ∙ l .loop .inv .1
+    let given = c .before .before .before .before .before .before .before .before .args in
+    extreme-parted _ (given .src .now) (given .held) (c .before .before .largest-four .ensures) (c .largest-on .ensures)
 
 pub largest-from-spec : {M : Type 1} → statement M
 largest-from-spec =
     tie.close
     (tie.spec
-    Inv-loop
-    μ-loop
-    loop-holds
-    mul-higher
-    shared-slice-read-higher
-    higher-requires
-    add-i
-    loop-less
-    loop-again
+    mul-two
+    mul-three
+    mul-four
+    slice-aggregate-largest-four
+    mul-largest-four
+    sub-largest-four
+    part-largest-four-start
+    part-largest-four-end
+    mul-largest-four-2
+    sub-largest-four-2
+    part-largest-four-start-2
+    part-largest-four-end-2
+    mul-largest-four-3
+    sub-largest-four-3
+    part-largest-four-start-3
+    part-largest-four-end-3
+    largest-four-requires
+    mul-largest-on
+    sub-largest-on
+    part-largest-on-start
+    part-largest-on-end
+    largest-on-requires
     returns)

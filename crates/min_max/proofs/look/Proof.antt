@@ -1,82 +1,115 @@
-use Prim.Native.Nat.{_-_, _≤_}
-use mathlib.Core.Path.{_≡_, refl, ap, _∙_}
-use mathlib.Core.Bool.{not}
-use lib.ListN.{length, drop}
-use Rattle.lists.proofs.First.{Looked, looked-none, looked-by, looked-end}
-use Rattle.floats.proofs.Pattern.{nan-test}
-use Rattle.min_max.specs.MinMax.{leastFrom, largestFrom, numberAt}
-use Rattle.min_max.proofs.Fold.{extreme-more, extreme-end}
+use native.Mathlib.Omega.{arith}
+use lib.ListN.{length-take, length-drop}
+use Rattle.min_max.proofs.Runs.{extreme-parted, numbers-parted}
 use borrow.Author.Needs.{needs}
 use Rattle.min_max.proofs.look.Statement.{statement}
 use Rattle.min_max.proofs.look.Tie as tie
 
-abbrev Inv-loop : tie.InvT-loop
-Inv-loop least largest src low₀ high₀ nan₀ i₀ low high nan i =
-    (i ≤ length src) × ((leastFrom low (drop i src) ≡ leastFrom low₀ src)
-    × ((largestFrom high (drop i src) ≡ largestFrom high₀ src) × Looked (numberAt src) nan i))
+mul-two : tie.Need-mul-two
+mul-two c = search needs
 
-abbrev μ-loop : tie.MeasureT-loop
-μ-loop least largest src low₀ high₀ nan₀ i₀ low high nan i = length src - i
+mul-three : tie.Need-mul-three
+mul-three c = search needs
 
-loop-holds : tie.Need-loop-holds Inv-loop μ-loop
-loop-holds c = (search needs, (refl, (refl, looked-none _)))
+mul-four : tie.Need-mul-four
+mul-four c = search needs
 
-mul-x : tie.Need-mul-x Inv-loop μ-loop
-mul-x c = search needs
+slice-aggregate-look-four : tie.Need-slice-aggregate-look-four
+slice-aggregate-look-four c = simp length-take (omega arith)
 
-shared-slice-read-x : tie.Need-shared-slice-read-x Inv-loop μ-loop
-shared-slice-read-x c = search needs
+mul-look-four : tie.Need-mul-look-four
+mul-look-four c = search needs
 
-lower-requires : tie.Need-lower-requires Inv-loop μ-loop
-lower-requires c κs = search needs
+sub-look-four : tie.Need-sub-look-four
+sub-look-four c = search needs
 
-higher-requires : tie.Need-higher-requires Inv-loop μ-loop
-higher-requires c κs = search needs
+part-look-four-start : tie.Need-part-look-four-start
+part-look-four-start c = search needs
 
-add-i : tie.Need-add-i Inv-loop μ-loop
-add-i c = search needs
+part-look-four-end : tie.Need-part-look-four-end
+part-look-four-end c = search needs
 
-loop-less : tie.Need-loop-less Inv-loop μ-loop
-loop-less c = search needs
+mul-look-four-2 : tie.Need-mul-look-four-2
+mul-look-four-2 c = search needs
 
-loop-again : tie.Need-loop-again Inv-loop μ-loop
-loop-again c =
-    let l = c .before .before .before .before in
-    let s = l .before .before .args .src .now in
-    let here = c .before .before .before .loop-test .taken in
-    let inv = l .loop .inv .1 in (
-      search needs,
-      (
-        extreme-more _ s (l .loop .i) (l .loop .low) _ here (c .before .lower .ensures) ∙ inv .0,
-        (
-          extreme-more _ s (l .loop .i) (l .loop .high) _ here (c .higher .ensures) ∙ inv .1 .0,
-          looked-by _ (l .loop .nan) _ (l .loop .i) (inv .1 .1) (ap not (nan-test _)),
-        ),
-      ),
-    )
+sub-look-four-2 : tie.Need-sub-look-four-2
+sub-look-four-2 c = search needs
 
-returns : tie.Need-returns Inv-loop μ-loop
+part-look-four-start-2 : tie.Need-part-look-four-start-2
+part-look-four-start-2 c = search needs
+
+part-look-four-end-2 : tie.Need-part-look-four-end-2
+part-look-four-end-2 c = search needs
+
+mul-look-four-3 : tie.Need-mul-look-four-3
+mul-look-four-3 c = search needs
+
+sub-look-four-3 : tie.Need-sub-look-four-3
+sub-look-four-3 c = search needs
+
+part-look-four-start-3 : tie.Need-part-look-four-start-3
+part-look-four-start-3 c = search needs
+
+part-look-four-end-3 : tie.Need-part-look-four-end-3
+part-look-four-end-3 c = search needs
+
+look-four-requires : tie.Need-look-four-requires
+look-four-requires c κs = simp (length-take, length-drop) (omega arith)
+
+mul-look-on : tie.Need-mul-look-on
+mul-look-on c = search needs
+
+sub-look-on : tie.Need-sub-look-on
+sub-look-on c = search needs
+
+part-look-on-start : tie.Need-part-look-on-start
+part-look-on-start c = search needs
+
+part-look-on-end : tie.Need-part-look-on-end
+part-look-on-end c = search needs
+
+look-on-requires : tie.Need-look-on-requires
+look-on-requires c κs = search needs
+
+returns : tie.Need-returns
 returns c =
-    let l = c .before in
-    let s = l .before .before .args .src .now in
-    let inv = l .loop .inv .1 in
-    let end = c .loop-test .left in (
-      extreme-end _ s (l .loop .i) (l .loop .low) end ∙ inv .0,
-      (extreme-end _ s (l .loop .i) (l .loop .high) end ∙ inv .1 .0, looked-end _ _ _ (l .loop .i) (inv .1 .1) end),
+    let on = c .before .before in
+    let four = on .before .before in
+    let given = four .before .before .before .before .before .before .args in
+    let s = given .src .now in
+    let runs = four .look-four in
+    let rest = on .look-on in (
+      extreme-parted _ s (given .least) (runs .ensures .0) (rest .ensures .0),
+      (
+        extreme-parted _ s (given .largest) (runs .ensures .1 .0) (rest .ensures .1 .0),
+        numbers-parted s (runs .result .nan) (rest .result .nan) (runs .ensures .1 .1) (rest .ensures .1 .1),
+      ),
     )
 
 pub look-spec : {M : Type 1} → statement M
 look-spec =
     tie.close
     (tie.spec
-    Inv-loop
-    μ-loop
-    loop-holds
-    mul-x
-    shared-slice-read-x
-    lower-requires
-    higher-requires
-    add-i
-    loop-less
-    loop-again
+    mul-two
+    mul-three
+    mul-four
+    slice-aggregate-look-four
+    mul-look-four
+    sub-look-four
+    part-look-four-start
+    part-look-four-end
+    mul-look-four-2
+    sub-look-four-2
+    part-look-four-start-2
+    part-look-four-end-2
+    mul-look-four-3
+    sub-look-four-3
+    part-look-four-start-3
+    part-look-four-end-3
+    look-four-requires
+    mul-look-on
+    sub-look-on
+    part-look-on-start
+    part-look-on-end
+    look-on-requires
     returns)

@@ -1,5 +1,5 @@
-use Rattle.min_max.proofs.higher.Statement.{statement}
-use Rattle.min_max.proofs.higher.Tie as tie
+use Rattle.min_max.proofs.folds.higher.Statement.{statement}
+use Rattle.min_max.proofs.folds.higher.Tie as tie
 
 returns : tie.Need-returns
 returns c = rw (c .if1 .taken)

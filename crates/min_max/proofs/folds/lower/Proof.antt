@@ -1,5 +1,5 @@
-use Rattle.min_max.proofs.lower.Statement.{statement}
-use Rattle.min_max.proofs.lower.Tie as tie
+use Rattle.min_max.proofs.folds.lower.Statement.{statement}
+use Rattle.min_max.proofs.folds.lower.Tie as tie
 
 returns : tie.Need-returns
 returns c = rw (c .if1 .taken)
