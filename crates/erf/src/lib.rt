@@ -1,5 +1,6 @@
 // erf.rs of rten-vecmath, one element at a time. For the crates above.
 ghost use mathlib.Core.Path.{_≡_};
+ghost use Rattle.floats.specs.Float.{absOf};
 ghost use Rattle.erf.specs.Erf.{ratioOf, polyOf, sizeOf, erfOf, geluOf, approxGeluOf};
 use consts::ERF_A0;
 use consts::ERF_A1;
@@ -11,7 +12,7 @@ use consts::GELU_CUBE;
 use consts::SQRT_2_PI;
 use consts::SQRT_2_RCP;
 use exp::reduced_range_exp;
-use floats::bits::abs_by_order;
+use floats::bits::abs;
 use tanh::tanh;
 
 fn ratio(size: f32) -> f32
@@ -30,17 +31,17 @@ fn poly(t: f32) -> f32
     y * t
 }
 
-// For a size: minus its square is at most zero, which reduced_range_exp asks.
-fn of_size(size: f32) -> f32
-    ensures { λ r. ⌜ r ≡ sizeOf size ⌝ }
+// For x's size, whose square is x's: the exponential need not wait for the size. Minus a square is at most zero, as reduced_range_exp asks.
+fn of_size(x: f32) -> f32
+    ensures { λ r. ⌜ r ≡ sizeOf (absOf x) ⌝ }
 {
-    1.0 - poly(ratio(size)) * reduced_range_exp(-(size * size))
+    1.0 - poly(ratio(abs(x))) * reduced_range_exp(-(x * x))
 }
 
 pub fn erf(x: f32) -> f32
     ensures { λ r. ⌜ r ≡ erfOf x ⌝ }
 {
-    let y = of_size(abs_by_order(x));
+    let y = of_size(x);
     if x < 0.0 { -y } else { y }
 }
 

@@ -7,7 +7,7 @@ use native.Mathlib.Nat.{zero-mul, mul-one, one-mul, zero-add, sub-zero, mul-pos,
 use native.Mathlib.Omega.{arith}
 use lib.IntN.{ℤ}
 use lib.Dec.{T}
-use lib.Ieee.{Float, nan, inf, fin, Format, up, down, sum, sub, lt, fits}
+use lib.Ieee.{Float, nan, inf, fin, Format, up, down, sum, sub, mul, lt, fits}
 use lib.Ieee.Fits.{down-pos}
 use borrow.Author.Tests.{lt-ltb}
 use Rattle.floats.specs.Float.{absOf}
@@ -35,7 +35,7 @@ above-its-minus m e p =
     let q = mul-pos p (down-pos e) in
     lt-ltb 0 (m * up e * down e + m * up e * down e) (omega arith)
 
--- the two ends of `abs_by_order`
+-- the two ends of `abs`
 pub size-then : (f : Format) (x : Float) → T (fits f x) → lt (sub f fin0 x) x ≡ true → x ≡ absOf x
 unfolding sub lt
 size-then f nan F h = refl
@@ -55,3 +55,12 @@ size-else f (fin false m e) F h =
       | inl z ↦ plus-zero f m e F z
       | inr p ↦ absurd (true≢false (sym (above-its-minus m e p) ∙ (rw (plus-above f m e F p) at h)))
     ]
+
+-- a square is that of the size
+pub square-of-size : (f : Format) (x : Float) → mul f x x ≡ mul f (absOf x) (absOf x)
+unfolding mul
+square-of-size f nan = refl
+square-of-size f (inf true) = refl
+square-of-size f (inf false) = refl
+square-of-size f (fin true m e) = refl
+square-of-size f (fin false m e) = refl

@@ -3,9 +3,6 @@ use Rattle.erf.specs.Erf.{erfOf}
 use Rattle.erf.proofs.erf.Statement.{statement}
 use Rattle.erf.proofs.erf.Tie as tie
 
-abs-by-order-requires : tie.Need-abs-by-order-requires
-abs-by-order-requires c κs = search needs
-
 of-size-requires : tie.Need-of-size-requires
 of-size-requires c κs = search needs
 
@@ -18,4 +15,4 @@ unfolding erfOf
 returns-2 c = simp (c .if1 .left) (cc)
 
 pub erf-spec : {M : Type 1} → statement M
-erf-spec = tie.close (tie.spec abs-by-order-requires of-size-requires returns returns-2)
+erf-spec = tie.close (tie.spec of-size-requires returns returns-2)
