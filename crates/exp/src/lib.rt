@@ -1,8 +1,7 @@
 // exp.rs of rten-vecmath, one element at a time. For the crates above.
 ghost use mathlib.Core.Bool.{false, cond};
 ghost use mathlib.Core.Path.{_≡_};
-ghost use mathlib.Core.Logic.{_⊎_};
-ghost use lib.Ieee.{nan, isNan, lt, le};
+ghost use lib.Ieee.{lt, le};
 ghost use Rattle.consts.specs.Consts.{zeroF, expUnderflow, expOverflow};
 ghost use Rattle.exp.specs.Exp.{iaOf, restOf, polyOf, scaleOf, expOf, reducedRangeExpOf, sigmoidOf, siluOf, swishOf, eluOf};
 use consts::EXP_LOWER_CUTOFF;
@@ -62,21 +61,20 @@ fn scale(p: f32, k: u32) -> f32
     p * s * t
 }
 
-// x, but the least in place of a NaN or of what lies below it. For the crates above.
-pub fn at_least(least: f32, x: f32) -> f32
+// x, but the least in place of a NaN or of what lies below it.
+fn at_least(least: f32, x: f32) -> f32
     ensures { λ r. ⌜ r ≡ cond (le least x) x least ⌝ }
 {
     if x >= least { x } else { least }
 }
 
-// For x between the two ends, where `near` is x, or for a NaN; else it is worked out too, and no exponential. Between the ends x times
-// INV_LOG2 plus the magic number is a whole number whose pattern counts it, so k is a difference of words. A NaN has no pattern to read:
-// k is then that of any number, and the NaN comes back by `rest`.
-pub fn exp_near(x: f32, near: f32) -> f32
-    requires { ⌜ isNan near ≡ false ⌝ }
-    ensures { λ r. ⌜ (le x expUnderflow ≡ false → le expOverflow x ≡ false → (near ≡ x) ⊎ (x ≡ nan) → r ≡ expOf x) ⌝ }
+// For x between the two ends, or a NaN; past them it is worked out too, and no exponential. Between them x times INV_LOG2 plus the magic
+// number is a whole number whose pattern counts it, so k is a difference of words. A NaN has no pattern to read: k is then that of the
+// lower end, and the NaN comes back by `rest`.
+pub fn exp_within(x: f32) -> f32
+    ensures { λ r. ⌜ (le x expUnderflow ≡ false → le expOverflow x ≡ false → r ≡ expOf x) ⌝ }
 {
-    let s = near * INV_LOG2 + ROUNDING_MAGIC;
+    let s = at_least(EXP_UNDERFLOW, x) * INV_LOG2 + ROUNDING_MAGIC;
     let k = sub_word(f32::to_bits(s), 0x4b400000);
     scale(poly(rest(x, s - ROUNDING_MAGIC)), k)
 }
@@ -90,7 +88,7 @@ pub fn exp(x: f32) -> f32
     if x >= EXP_OVERFLOW {
         return infinity();
     }
-    exp_near(x, at_least(EXP_UNDERFLOW, x))
+    exp_within(x)
 }
 
 // For x at most zero, minus infinity among it, or a NaN.

@@ -1,7 +1,7 @@
 // The sign and the range of an f32.
 ghost use mathlib.Core.Path.{_≡_};
 ghost use mathlib.Core.Bool.{false};
-ghost use lib.Ieee.{binary32, inf, isNan, ofBits, toBits};
+ghost use lib.Ieee.{binary32, inf, ofBits, toBits};
 ghost use lib.Ieee.Scale.{finite};
 ghost use Rattle.floats.specs.Float.{absOf};
 
@@ -39,14 +39,6 @@ pub fn abs(x: f32) -> f32
 {
     let minus = 0.0 - x;
     if x > minus { x } else { minus }
-}
-
-// The sign bit off: one operation, where a NaN is ruled out.
-pub fn abs_of_number(x: f32) -> f32
-    requires { ⌜ isNan x ≡ false ⌝ }
-    ensures { λ r. ⌜ r ≡ absOf x ⌝ }
-{
-    f32::from_bits(f32::to_bits(x) % 0x80000000)
 }
 
 pub fn is_finite(x: f32) -> bool

@@ -1,8 +1,6 @@
 // tanh.rs of rten-vecmath, one element at a time. For the crates above.
 ghost use mathlib.Core.Path.{_≡_};
-ghost use Rattle.floats.specs.Float.{absOf};
 ghost use Rattle.tanh.specs.Tanh.{smallOf, mediumOf, sizeOf, tanhOf};
-use consts::EXP_UNDERFLOW;
 use consts::TANH_CUTOFF;
 use consts::TANH_P1;
 use consts::TANH_P3;
@@ -11,10 +9,8 @@ use consts::TANH_P7;
 use consts::TANH_P9;
 use consts::TANH_SMALL;
 use consts::TANH_TINY;
-use exp::at_least;
-use exp::exp_near;
+use exp::exp_within;
 use floats::bits::abs;
-use floats::bits::abs_of_number;
 
 fn small(square: f32, size: f32) -> f32
     ensures { λ r. ⌜ r ≡ smallOf square size ⌝ }
@@ -33,14 +29,11 @@ fn medium(e: f32) -> f32
 }
 
 // Both forms are worked out before the choice, so that a loop over it has no branch.
-// `near` is the size but for a NaN or an x below the end of exp, where its form is not taken: so exp need not wait for the size.
-fn chosen(x: f32) -> f32
-    ensures { λ r. ⌜ r ≡ sizeOf x (absOf x) ⌝ }
+fn chosen(x: f32, size: f32) -> f32
+    ensures { λ r. ⌜ r ≡ sizeOf x size ⌝ }
 {
-    let size = abs(x);
-    let near = abs_of_number(at_least(EXP_UNDERFLOW, x));
     let low = small(x * x, size);
-    let high = medium(exp_near(size * 2.0, near * 2.0));
+    let high = medium(exp_within(size * 2.0));
     if size <= TANH_TINY {
         return size;
     }
@@ -56,6 +49,6 @@ fn chosen(x: f32) -> f32
 pub fn tanh(x: f32) -> f32
     ensures { λ r. ⌜ r ≡ tanhOf x ⌝ }
 {
-    let y = chosen(x);
+    let y = chosen(x, abs(x));
     if x <= 0.0 { -y } else { y }
 }

@@ -1,28 +1,30 @@
-use mathlib.Core.Path.{_≡_, refl, sym, subst}
-use mathlib.Core.Bool.{not}
-use mathlib.Core.Logic.{inl, inr}
-use lib.Dec.{T}
+use mathlib.Core.Path.{_≡_, refl}
 use native.Mathlib.Omega.{arith}
-use lib.Ieee.{Float, nan, binary32, add, sub, mul, sum, isNan, lt, ofBits}
+use lib.Ieee.{Float, nan, binary32, add, sub, mul, sum, lt, le, eq, ofBits}
 use borrow.Author.Needs.{needs}
 use Rattle.consts.specs.Consts.{f32, expLowerCutoff}
+use Rattle.floats.specs.Words.{addWord, shl23, truncWord}
 use Rattle.floats.proofs.Pattern.{low-zero}
-use Rattle.exp.specs.Exp.{jOf, reducedRangeExpOf}
-use Rattle.exp.proofs.Steps.{InRange, reduced-range, least-number, reduced-reads, shifted-number, shifted-word, poly-nan}
+use Rattle.exp.specs.Exp.{jOf, restOf, polyOf, reducedRangeExpOf}
+use Rattle.exp.proofs.Steps.{InRange, Reads, reduced-reads, reads-range, reads-same, shifted-no-nan, shifted-word}
 use Rattle.exp.proofs.reduced_range_exp.Statement.{statement}
 use Rattle.exp.proofs.reduced_range_exp.Tie as tie
 
-number : (c : tie.After-at-least) → T (not (isNan (c .at-least .result)))
-unfolding isNan ofBits
-number c = least-number expLowerCutoff _ (c .at-least .result) tt (c .at-least .ensures)
+-- past the test
+reads : (c : tie.After-at-least) → Reads expLowerCutoff (c .before .before .args .x) (c .at-least .result)
+reads c = reduced-reads _ _ (c .before .before .pre) (c .before .if1 .left) (c .at-least .ensures)
 
-mul-nan : (y : Float) → mul binary32 nan y ≡ nan
-unfolding mul
-mul-nan y = refl
+range : (c : tie.After-at-least) → InRange (c .at-least .result)
+unfolding ofBits le lt eq
+range c = reads-range expLowerCutoff _ _ (tt, tt) (reads c)
 
-reduced-nan : reducedRangeExpOf nan ≡ nan
-unfolding reducedRangeExpOf lt add sub mul sum ofBits
-reduced-nan = refl
+-- the last step, with k and j from y
+abbrev ended : Float → Float → Float
+ended x y = mul binary32 (polyOf (restOf x (jOf y))) (f32 (shl23 (addWord (truncWord (jOf y)) 127)))
+
+ended-nan : ended nan expLowerCutoff ≡ ended nan nan
+unfolding add sub mul sum ofBits
+ended-nan = refl
 
 returns : tie.Need-returns
 unfolding reducedRangeExpOf
@@ -32,7 +34,7 @@ at-least-requires : tie.Need-at-least-requires
 at-least-requires c κs = search needs
 
 float-to-bits-sub-word : tie.Need-float-to-bits-sub-word
-float-to-bits-sub-word c = shifted-number (c .at-least .result) (number c)
+float-to-bits-sub-word c = shifted-no-nan (c .at-least .result) (range c)
 
 sub-word-requires : tie.Need-sub-word-requires
 sub-word-requires c κs = search needs
@@ -52,28 +54,11 @@ shl-23-requires c κs = search needs
 float-from-bits-result : tie.Need-float-from-bits-result
 float-from-bits-result c = low-zero (c .shl-23 .result) (omega arith)
 
-for-number : (c : tie.After-shl-23) → let at = c .before .before .before .before .before in at .at-least .result ≡ at .before .before .args .x
-    → mul binary32 (c .before .before .poly .result) (f32 (c .shl-23 .result)) ≡ reducedRangeExpOf (at .before .before .args .x)
-unfolding reducedRangeExpOf
-for-number c e =
-    let at = c .before .before .before .before .before in
-    let x = at .before .before .args .x in
-    let range = reduced-range x (subst (λ (z : Float). T (not (isNan z))) e (number at)) (at .before .before .pre) (at .before .if1 .left) in
-    simp (at .before .if1 .left) (cc (shifted-word (at .at-least .result) (subst InRange (sym e) range), e))
-
-for-nan : (c : tie.After-shl-23) → let at = c .before .before .before .before .before in at .before .before .args .x ≡ nan
-    → mul binary32 (c .before .before .poly .result) (f32 (c .shl-23 .result)) ≡ reducedRangeExpOf (at .before .before .args .x)
-for-nan c e =
-    let at = c .before .before .before .before .before in
-    cc (e, reduced-nan, poly-nan (jOf (at .at-least .result)), mul-nan (f32 (c .shl-23 .result)))
-
 returns-2 : tie.Need-returns-2
+unfolding reducedRangeExpOf
 returns-2 c =
     let at = c .before .before .before .before .before in
-    elim (reduced-reads _ (at .at-least .result) (at .before .if1 .left) (at .at-least .ensures)) [
-      | inl e ↦ for-number c e
-      | inr e ↦ for-nan c e
-    ]
+    simp (at .before .if1 .left) (cc (shifted-word (at .at-least .result) (range at), reads-same ended _ _ _ ended-nan (reads at)))
 
 pub reduced-range-exp-spec : {M : Type 1} → statement M
 reduced-range-exp-spec =

@@ -3,6 +3,9 @@ use Rattle.tanh.specs.Tanh.{tanhOf}
 use Rattle.tanh.proofs.tanh.Statement.{statement}
 use Rattle.tanh.proofs.tanh.Tie as tie
 
+abs-requires : tie.Need-abs-requires
+abs-requires c κs = search needs
+
 chosen-requires : tie.Need-chosen-requires
 chosen-requires c κs = search needs
 
@@ -15,4 +18,4 @@ unfolding tanhOf
 returns-2 c = simp (c .if1 .left) (cc)
 
 pub tanh-spec : {M : Type 1} → statement M
-tanh-spec = tie.close (tie.spec chosen-requires returns returns-2)
+tanh-spec = tie.close (tie.spec abs-requires chosen-requires returns returns-2)
