@@ -86,25 +86,27 @@ fn sum_by(offset: f32, held: f32, src: &[f32], exponentials: &mut [f32]) -> f32
     sum(held, exponentials)
 }
 
-// A run of elements.
+// Elements of a run: a length that the compiler knows.
+const RUN: usize = 16;
+
 fn sum_run(offset: f32, held: f32, src: &[f32]) -> f32
     requires { ⌜ length (now src) ≤ 16 ⌝ }
     ensures { λ r. ⌜ r ≡ sumFrom (SumExpSub offset) held (now (src .entry)) ⌝ }
 {
     let n = src.len();
-    let mut exponentials = [0.0f32; 16];
+    let mut exponentials = [0.0f32; RUN];
     sum_by(offset, held, src, &mut exponentials[..n])
 }
 
-// In runs of 16, a length that the compiler then knows, and a shorter one.
+// In runs, and a shorter one.
 pub fn sum_exp_sub(offset: f32, held: f32, src: &[f32]) -> f32
     ensures { λ r. ⌜ r ≡ sumFrom (SumExpSub offset) held (now (src .entry)) ⌝ }
 {
     let n = src.len();
     let mut sum = held;
     let mut i = 0;
-    while n - i >= 16 {
-        let end = i + 16;
+    while n - i >= RUN {
+        let end = i + RUN;
         sum = sum_run(offset, sum, &src[i..end]);
         i = end;
     }
