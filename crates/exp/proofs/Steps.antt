@@ -15,7 +15,7 @@ use Rattle.floats.proofs.Monotone.{mul-mono-r, add-mono}
 use Rattle.floats.proofs.NoNan.{add-number, mul-number}
 use Rattle.floats.proofs.Order.{le-numbers, le-trans-f, not-le, not-lt, finite-between}
 use Rattle.exp.specs.Exp.{jOf, iaOf}
-use Rattle.floats.proofs.Line.{OnLine, on-line, line-number, line-word}
+use Rattle.floats.proofs.Line.{OnLine, on-line, line-word}
 
 -- x from -104 to 104
 abbrev pub InRange : Float → Type 0
@@ -25,38 +25,38 @@ InRange x = T (le expUnderflow x) × T (le x expOverflow)
 abbrev pub Reads : Float → Float → Float → Type 0
 Reads least x y = ((y ≡ x) × InRange x) ⊎ ((x ≡ nan) × (y ≡ least))
 
-reads-number : (least x y : Float) → y ≡ cond (le least x) x least → T (le least x) → T (le expUnderflow x) → T (le x expOverflow) → Reads least x y
-reads-number least x y e at lo hi = inl (e ∙ ap (λ b. cond b x least) (is-true (le least x) at), (lo, hi))
+number : (least x y : Float) → y ≡ cond (le least x) x least → T (le least x) × InRange x → Reads least x y
+number least x y e h = inl (e ∙ ap (λ b. cond b x least) (is-true (le least x) (h .0)), h .1)
 
-exp-number : (x y : Float) → T (not (isNan x)) → le x expUnderflow ≡ false → le expOverflow x ≡ false → y ≡ cond (le expUnderflow x) x expUnderflow
-    → Reads expUnderflow x y
-unfolding isNan ofBits
-exp-number x y N lo hi e =
-    let at = not-le x expUnderflow N tt lo in
-    reads-number expUnderflow x y e at at (not-le expOverflow x tt N hi)
+le-nan : (x : Float) → le x nan ≡ false
+unfolding le lt eq
+le-nan nan = refl
+le-nan (inf s) = refl
+le-nan (fin s m e) = refl
 
-reduced-number : (x y : Float) → T (not (isNan x)) → lt zeroF x ≡ false → lt x expLowerCutoff ≡ false
-    → y ≡ cond (le expLowerCutoff x) x expLowerCutoff → Reads expLowerCutoff x y
-unfolding isNan ofBits le lt eq
-reduced-number x y N z lo e =
-    let at = not-lt x expLowerCutoff N tt lo in
-    reads-number expLowerCutoff x y e at (le-trans-f expUnderflow expLowerCutoff x tt at) (le-trans-f x zeroF expOverflow (not-lt zeroF x tt N z) tt)
+-- by `at_least`, where a number that passes the tests is in range
+reads : (least x y : Float) → y ≡ cond (le least x) x least → (T (not (isNan x)) → T (le least x) × InRange x) → Reads least x y
+unfolding isNan
+reads least nan y e h = inr (refl, e ∙ ap (λ b. cond b nan least) (le-nan least))
+reads least (inf s) y e h = number least (inf s) y e (h tt)
+reads least (fin s m d) y e h = number least (fin s m d) y e (h tt)
 
 -- what `exp_within` takes
 pub exp-reads : (x y : Float) → le x expUnderflow ≡ false → le expOverflow x ≡ false → y ≡ cond (le expUnderflow x) x expUnderflow
     → Reads expUnderflow x y
 unfolding isNan ofBits
-exp-reads nan y lo hi e = inr (refl, unfold le lt eq in e)
-exp-reads (inf s) y lo hi e = exp-number (inf s) y tt lo hi e
-exp-reads (fin s m d) y lo hi e = exp-number (fin s m d) y tt lo hi e
+exp-reads x y lo hi e =
+    reads expUnderflow x y e (λ N. let at = not-le x expUnderflow N tt lo in (at, (at, not-le expOverflow x tt N hi)))
 
 -- past the test of `reduced_range_exp`, x not above zero
 pub reduced-reads : (x y : Float) → lt zeroF x ≡ false → lt x expLowerCutoff ≡ false → y ≡ cond (le expLowerCutoff x) x expLowerCutoff
     → Reads expLowerCutoff x y
-unfolding isNan ofBits
-reduced-reads nan y z lo e = inr (refl, unfold le lt eq in e)
-reduced-reads (inf s) y z lo e = reduced-number (inf s) y tt z lo e
-reduced-reads (fin s m d) y z lo e = reduced-number (fin s m d) y tt z lo e
+unfolding isNan ofBits le lt eq
+reduced-reads x y z lo e =
+    reads expLowerCutoff x y e
+    (λ N.
+    let at = not-lt x expLowerCutoff N tt lo in
+    (at, (le-trans-f expUnderflow expLowerCutoff x tt at, le-trans-f x zeroF expOverflow (not-lt zeroF x tt N z) tt)))
 
 pub reads-range : (least x y : Float) → InRange least → Reads least x y → InRange y
 reads-range least x y r (inl h) = subst InRange (sym (h .0)) (h .1)
@@ -100,10 +100,6 @@ module _ (x : Float) (r : InRange x) where
       on-line shifted (add-fits binary32 y roundingMagic)
       (le-trans-f (fin false 1 (pos 23)) (add binary32 bot roundingMagic) shifted tt from)
       (le-trans-f shifted (add binary32 top roundingMagic) (fin false 16777215 (pos 0)) to tt)
-
-  -- it is no NaN
-  pub shifted-no-nan : T (not (isNan shifted))
-  shifted-no-nan = line-number shifted shifted-line
 
   -- its pattern, less that of ROUNDING_MAGIC, is the word of k
   pub shifted-word : subWord (toBits binary32 shifted) 0x4b40_0000 ≡ truncWord (jOf x)

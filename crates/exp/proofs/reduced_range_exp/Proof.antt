@@ -1,12 +1,12 @@
 use mathlib.Core.Path.{_≡_, refl}
 use native.Mathlib.Omega.{arith}
-use lib.Ieee.{Float, nan, binary32, add, sub, mul, sum, lt, le, eq, ofBits}
+use lib.Ieee.{Float, nan, binary32, add, sub, mul, sum, isNan, lt, le, eq, ofBits}
 use borrow.Author.Needs.{needs}
 use Rattle.consts.specs.Consts.{f32, expLowerCutoff}
 use Rattle.floats.specs.Words.{addWord, shl23, truncWord}
 use Rattle.floats.proofs.Pattern.{low-zero}
 use Rattle.exp.specs.Exp.{jOf, restOf, polyOf, reducedRangeExpOf}
-use Rattle.exp.proofs.Steps.{InRange, Reads, reduced-reads, reads-range, reads-same, shifted-no-nan, shifted-word}
+use Rattle.exp.proofs.Steps.{InRange, Reads, reduced-reads, reads-range, reads-same, read-number, shifted-word}
 use Rattle.exp.proofs.reduced_range_exp.Statement.{statement}
 use Rattle.exp.proofs.reduced_range_exp.Tie as tie
 
@@ -34,7 +34,8 @@ at-least-requires : tie.Need-at-least-requires
 at-least-requires c κs = search needs
 
 float-to-bits-sub-word : tie.Need-float-to-bits-sub-word
-float-to-bits-sub-word c = shifted-no-nan (c .at-least .result) (range c)
+unfolding isNan ofBits
+float-to-bits-sub-word c = read-number expLowerCutoff _ (c .at-least .result) tt (c .at-least .ensures)
 
 sub-word-requires : tie.Need-sub-word-requires
 sub-word-requires c κs = search needs
