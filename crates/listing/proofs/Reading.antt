@@ -15,8 +15,8 @@ use Rattle.answer.specs.declared.Answer.the-variants.{Done, Refused}
 use Rattle.answer.proofs.Chain.{done-is}
 use Rattle.answer.proofs.Joined.{join-refused, join-done, parted}
 use Rattle.answer.proofs.Numbers as numbers
-use Rattle.table.specs.Limits.{form1}
-use Rattle.table.specs.Read.{bytesFrom, bandsOf, rowsOf, headTests, lentTests, bodyTests, readAnswer, tableAnswer, gainAt, gainsOf, readOut}
+use Rattle.block.specs.Limits.{form1}
+use Rattle.block.specs.Read.{bytesFrom, bandsOf, rowsOf, headTests, lentTests, bodyTests, readAnswer, tableAnswer, gainAt, gainsOf, readOut}
 use Rattle.table.specs.Told.{tableToldOf, tableWith, shapeOf, tableTold, readTold}
 use Rattle.table.specs.declared.Shape.{Shape}
 use Rattle.table.specs.declared.TableAnswer.the-variants as table

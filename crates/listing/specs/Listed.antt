@@ -5,8 +5,8 @@ use mathlib.Core.List.{List, [], _++_}
 use lib.ListN.{length, take, drop}
 use lib.Dec.{ltb, eqb}
 use Rattle.answer.specs.Answer.{judged, whenDone}
-use Rattle.table.specs.Limits.{form1}
-use Rattle.table.specs.Read.{bytesFrom, bandsOf, rowsOf, headTests, gainsOf}
+use Rattle.block.specs.Limits.{form1}
+use Rattle.block.specs.Read.{bytesFrom, bandsOf, rowsOf, headTests, gainsOf}
 use Rattle.table.specs.Told.{tableTold}
 use Rattle.listing.specs.Limits.{inputLimit}
 use Rattle.listing.specs.Lines.{headLine, refusedLine, rowLine}

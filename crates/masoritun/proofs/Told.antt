@@ -6,7 +6,7 @@ use native.Mathlib.Omega.{arith}
 use Rattle.answer.specs.Answer.{placeOf, toldOf}
 use Rattle.answer.specs.declared.Answer.the-variants.{Refused as No}
 use Rattle.answer.specs.declared.Refusal.{Refusal}
-use Rattle.table.specs.Limits.{form1}
+use Rattle.block.specs.Limits.{form1}
 use Rattle.table.specs.Told.{tableToldOf, blockToldOf, readTold, blockTold}
 use Rattle.table.specs.declared.Shape.{Shape}
 use Rattle.table.specs.declared.Header.{Header}

@@ -2,10 +2,10 @@
 ghost use mathlib.Core.Path.{_≡_};
 ghost use Rattle.masoritun.specs.Lent.{whenZero};
 ghost use Rattle.masoritun.specs.Packed.{packed};
-ghost use Rattle.table.specs.Limits.{form1};
-ghost use Rattle.table.specs.Read.{readOut};
+ghost use Rattle.block.specs.Limits.{form1};
+ghost use Rattle.block.specs.Read.{readOut};
 ghost use Rattle.table.specs.Told.{readTold, blockTold};
-ghost use Rattle.table.specs.Write.{writeTold, writeOut};
+ghost use Rattle.block.specs.Write.{writeTold, writeOut};
 use crate::pack::pack;
 use answer::Answer;
 use table::BlockAnswer;

@@ -1,5 +1,3 @@
-pub mod Bits
-pub mod Shares
 pub mod Steps
 pub mod Positive
 pub mod Passed

@@ -28,7 +28,7 @@ use Rattle.softmax_facts.proofs.Reciprocal.{recip-between}
 use Rattle.softmax_facts.proofs.Sum.{countF, count-finite}
 use Rattle.floats.proofs.Order.{finite-between}
 use Rattle.split.specs.Limits.{stepCount}
-use Rattle.split.specs.Parts.{at, total}
+use Rattle.parts.specs.Parts.{at, total}
 use Rattle.split.specs.Split.{stepsOf, levelSteps}
 
 -- ---- the reciprocal of what lies from 1 to 64 is 1 / 64 at least

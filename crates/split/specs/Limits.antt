@@ -1,10 +1,6 @@
 -- The numbers of the split (document 01, "Split"). Definitions only.
 use Prim.Native.Nat.{ℕ, _^_}
 
--- the parts that the gains add up to
-abbrev pub parts : ℕ
-parts = 32768
-
 -- the steps of a weight of 1
 abbrev pub stepPower : ℕ
 stepPower = 24

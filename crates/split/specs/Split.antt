@@ -13,7 +13,7 @@ use Rattle.consts.specs.Consts.{zeroF, oneF}
 use Rattle.floats.specs.Fraction.{frac}
 use Rattle.softmax.specs.Softmax.{firstOutside, allMasked, weightsOf}
 use Rattle.split.specs.Limits.{stepCount, bandLimit}
-use Rattle.split.specs.Parts.{gainsOf}
+use Rattle.parts.specs.Parts.{gainsOf}
 
 -- The weight times 2 ^ 24, exactly, to the nearest whole number, ties to even. (0 for what is negative or not finite, which no weight is.)
 unfoldable pub stepsOf : Float → ℕ

@@ -17,7 +17,7 @@ use Rattle.min_max.specs.MinMax.{extremeFrom}
 use Rattle.sum.specs.Sum.{sumFrom}
 use Rattle.softmax.specs.Softmax.{firstOutside, allMasked, maxOf, expsOf, sumOf, weightsOf}
 use Rattle.split.specs.Limits.{bandLimit}
-use Rattle.split.specs.Parts.{total, lt1, over, comes, rank, gain, gainsOver, gainsOf}
+use Rattle.parts.specs.Parts.{total, lt1, over, comes, rank, gain, gainsOver, gainsOf}
 use Rattle.split.specs.Split.{stepsOf, levelSteps, splitAnswer}
 use Rattle.split_facts.proofs.Equal.{equal-bands}
 use Rattle.split_facts.proofs.Splits.{Splits}

@@ -15,12 +15,13 @@ use Rattle.floats.proofs.Near.{Near}
 use Rattle.floats.proofs.Signed.{nonneg-under}
 use Rattle.softmax.specs.Softmax.{weightsOf}
 use Rattle.softmax_facts.proofs.Facts.{softmax-facts}
-use Rattle.split.specs.Limits.{parts, stepCount}
-use Rattle.split.specs.Parts.{at, total, distance}
+use Rattle.parts.specs.Limits.{parts}
+use Rattle.split.specs.Limits.{stepCount}
+use Rattle.parts.specs.Parts.{at, total, distance}
 use Rattle.split.specs.Split.{levelSteps}
 use Rattle.split.proofs.Determined.{Allowed}
 use Rattle.split.proofs.Positive.{steps-at, level-steps-length}
-use Rattle.split_facts.proofs.Nearest.{gains-length, gains-total, gains-nearest}
+use Rattle.parts.proofs.Nearest.{gains-length, gains-total, gains-nearest}
 use Rattle.split_facts.proofs.Splits.{Levels, levels-input, levels-total, levels-split, steps-near}
 
 -- (`distance a l` is the sum of |T l - 32768 a|, for a the weights in steps, `levelSteps s`, and T their total.)

@@ -1,6 +1,3 @@
-pub mod Order
-pub mod Nearest
-pub mod Even
 pub mod Splits
 pub mod Demand3
 pub mod Equal

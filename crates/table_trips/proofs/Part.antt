@@ -8,13 +8,13 @@ use lib.ListN.{length, getD, take, drop, length-take, length-drop}
 use lib.Seq.{getD-take, getD-drop}
 use lib.Dec.{leb, eqb}
 use Rattle.lists.proofs.First.{first-same}
-use Rattle.table.specs.Limits.{form1}
-use Rattle.table.specs.Block.{held}
-use Rattle.table.specs.Write.{rowOk, badRow}
-use Rattle.table.specs.Read.{bytesFrom, wordAt, gainIn, checksOk, headOk, blank, rowTests, blockTests}
-use Rattle.table.proofs.Sizes.{held-small}
-use Rattle.table.proofs.Bytes.{checkA-same, checkB-same}
-use Rattle.table.proofs.Totals.{row-same}
+use Rattle.block.specs.Limits.{form1}
+use Rattle.block.specs.Block.{held}
+use Rattle.block.specs.Write.{rowOk, badRow}
+use Rattle.block.specs.Read.{bytesFrom, wordAt, gainIn, checksOk, headOk, blank, rowTests, blockTests}
+use Rattle.block.proofs.Sizes.{held-small}
+use Rattle.block.proofs.Bytes.{checkA-same, checkB-same}
+use Rattle.block.proofs.Totals.{row-same}
 
 -- the 512 bytes of block k
 abbrev pub blockOf : List ℕ → ℕ → List ℕ

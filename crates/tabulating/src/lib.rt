@@ -14,8 +14,8 @@ use answer::place;
 use floats::bits::from_pattern;
 use split::BAND_LIMIT;
 use split::split;
-use table::counts::blocks_of;
-use table::counts::size_ok;
+use block::counts::blocks_of;
+use block::counts::size_ok;
 
 // Document 01's number and place, and the bytes of the table, 0 where refused.
 pub struct Tabulated {

@@ -8,7 +8,6 @@ ghost use lib.ListN.{length, getD};
 ghost use Rattle.answer.specs.Answer.{toldOf};
 ghost use Rattle.unary.specs.Unary.{evalOf, alsoIn, inDomain, alphaOk, firstOutside, applyTold, applyOut};
 
-mod fills;
 mod looks;
 
 use crate::looks::any_outside;

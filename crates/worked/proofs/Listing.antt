@@ -8,11 +8,11 @@ use lib.ListN.{replicate}
 use Rattle.lists.specs.Index.{sumTo}
 use Rattle.listing.specs.Listed.{answerText, listed}
 use Rattle.listing.proofs.Case as listing
-use Rattle.table.specs.Limits.{form1}
-use Rattle.table.specs.Read.{gainsOf}
+use Rattle.block.specs.Limits.{form1}
+use Rattle.block.specs.Read.{gainsOf}
 use Rattle.table.specs.Told.{tableTold}
-use Rattle.table.specs.Write.{rowOk, gainOf}
-use Rattle.table.proofs.Case as table
+use Rattle.block.specs.Write.{rowOk, gainOf}
+use Rattle.block.proofs.Case as table
 use Rattle.table_trips.proofs.Readable.{told-judged}
 use Rattle.table_trips.proofs.Written.{table-reads, some-block, gains-back}
 

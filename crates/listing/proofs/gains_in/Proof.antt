@@ -2,7 +2,7 @@ use mathlib.Core.Path.{sym, _∙_}
 use native.Mathlib.Omega.{arith}
 use borrow.Author.Needs.{needs}
 use borrow.Author.Tests.{not-true, not-false}
-use Rattle.table.specs.Limits.{form1}
+use Rattle.block.specs.Limits.{form1}
 use Rattle.table.proofs.Reading.{begun-long}
 use Rattle.listing.proofs.Reading.{gains-refused, gains-begun, gains-done}
 use Rattle.listing.proofs.gains_in.Statement.{statement}

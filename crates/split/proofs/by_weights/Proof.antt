@@ -17,7 +17,7 @@ use Rattle.floats.proofs.Each.{Each}
 use Rattle.floats.proofs.Between.{Between}
 use Rattle.softmax_facts.proofs.Called.{called}
 use Rattle.softmax_facts.proofs.Facts.{Input, softmax-facts, weights-length}
-use Rattle.split.specs.Parts.{total, gainsOf}
+use Rattle.parts.specs.Parts.{total, gainsOf}
 use Rattle.split.specs.Split.{stepsOf, levelSteps, splitAnswer}
 use Rattle.split.proofs.Passed.{lastTests, softmax-rest, done-input, past-counts}
 use Rattle.split.proofs.Positive.{level-steps-length, steps-total}

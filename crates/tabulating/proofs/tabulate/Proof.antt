@@ -8,9 +8,9 @@ use borrow.Author.Needs.{needs}
 use borrow.Author.Tests.{eq-eqb, ne-eqb, not-false}
 use Rattle.answer.specs.declared.Refusal.the-variants.{Count, StoredLength}
 use Rattle.answer.proofs.Chain.{stop, skip, clear}
-use Rattle.table.specs.Limits.{form1}
-use Rattle.table.proofs.Sizes.{blocks-small}
-use Rattle.table.proofs.Tests.{Sizes, size-is, sizes-fit}
+use Rattle.block.specs.Limits.{form1}
+use Rattle.block.proofs.Sizes.{blocks-small}
+use Rattle.block.proofs.Tests.{Sizes, size-is, sizes-fit}
 use Rattle.tabulating.specs.Tabulated.{rowsIn}
 use Rattle.tabulating.proofs.Rows.{few-gains}
 use Rattle.tabulating.proofs.Told.{room-short, room-enough, shaped, tells-refused, tells-none, tells-stored}

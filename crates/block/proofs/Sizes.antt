@@ -1,0 +1,113 @@
+-- Laws of a table's shape, W stored gains to a row: rows of a full block, blocks, rows of block k. Assumes nothing.
+use Prim.Native.Nat.{ℕ, _+_, _-_, _*_, _/_, _%_, _≤_, _<_, min}
+use mathlib.Core.Path.{_≡_, sym, ap, _∙_}
+use mathlib.Core.List.{List}
+use native.Mathlib.Decide.{decLt}
+use native.Mathlib.Nat.{le-div-iff-mul-le, div-lt-iff-lt-mul, div-mul-le-self, div-le-self, mul-le-mul, mul-le-mul-right, add-mul, mul-assoc, mul-comm, suc-mul, lt-div-mul-add, mod-lt, div-add-mod'}
+use native.Mathlib.Omega.{arith}
+use lib.ListN.{length}
+use Rattle.block.specs.Block.{perBlock, blocks, held}
+use Rattle.block.specs.Asked.{Storable}
+
+-- a row fits a block
+pub per-pos : (W : ℕ) → 1 ≤ W → W ≤ 250 → 1 ≤ perBlock W
+per-pos W h l = le-div-iff-mul-le h .1 (omega arith)
+
+pub per-fits : (W : ℕ) → perBlock W * W ≤ 250
+per-fits W = div-mul-le-self 250 W
+
+pub per-small : (W : ℕ) → perBlock W ≤ 250
+per-small W = div-le-self 250 W
+
+-- block k is one of the table's exactly where its first row is
+pub blocks-lt : (W N k : ℕ) → 1 ≤ perBlock W → k < blocks W N → perBlock W * k < N
+unfolding blocks
+blocks-lt W N k h l = omega (arith, le-div-iff-mul-le h .0 l, suc-mul k (perBlock W), mul-comm k (perBlock W))
+
+pub lt-blocks : (W N k : ℕ) → 1 ≤ perBlock W → perBlock W * k < N → k < blocks W N
+unfolding blocks
+lt-blocks W N k h l = le-div-iff-mul-le h .1 (omega (arith, suc-mul k (perBlock W), mul-comm k (perBlock W)))
+
+-- so there are no more blocks than rows
+pub few-blocks : (W N k : ℕ) → 1 ≤ perBlock W → k < blocks W N → k < N
+few-blocks W N k h l = omega (arith, blocks-lt W N k h l, mul-le-mul-right k h)
+
+pub blocks-small : (W N : ℕ) → blocks W N ≤ N + 250
+unfolding blocks
+blocks-small W N = omega (arith, div-le-self (N + (perBlock W - 1)) (perBlock W), per-small W)
+
+-- the gains before block k
+pub before-block : (P W k : ℕ) → k * (P * W) ≡ P * k * W
+before-block P W k = sym (mul-assoc k P W) ∙ ap (λ (x : ℕ). x * W) (mul-comm k P)
+
+-- the gains of block k
+pub held-fits : (W N k : ℕ) → 1 ≤ perBlock W → k < blocks W N → k * (perBlock W * W) + held W N k * W ≤ N * W
+unfolding held
+held-fits W N k h l =
+    let m : (perBlock W * k + held W N k) * W ≤ N * W = mul-le-mul-right W (omega (arith, blocks-lt W N k h l)) in
+    omega (arith, before-block (perBlock W) W k, add-mul (perBlock W * k) (held W N k) W)
+
+pub held-rows : (W N k r : ℕ) → 1 ≤ perBlock W → k < blocks W N → r < held W N k → perBlock W * k + r < N
+unfolding held
+held-rows W N k r h l m = omega (arith, blocks-lt W N k h l)
+
+pub held-wide : (W N k : ℕ) → held W N k * W ≤ perBlock W * W
+unfolding held
+held-wide W N k = mul-le-mul-right W (omega arith)
+
+pub held-small : (W N k : ℕ) → held W N k * W ≤ 250
+held-small W N k = omega (arith, held-wide W N k, per-fits W)
+
+pub held-le : (W N k : ℕ) → held W N k ≤ 250
+unfolding held
+held-le W N k = omega (arith, per-small W)
+
+-- a full block has a gain
+pub wide-pos : (W : ℕ) → 1 ≤ W → W ≤ 250 → 1 ≤ perBlock W * W
+wide-pos W h l = mul-le-mul {n₁ = 1} {m₁ = 1} (per-pos W h l) h
+
+-- the blocks have room for the rows
+pub rows-fit : (W N : ℕ) → 1 ≤ perBlock W → N ≤ blocks W N * perBlock W
+unfolding blocks
+rows-fit W N h = omega (arith, lt-div-mul-add {a = N + (perBlock W - 1)} {b = perBlock W} h)
+
+-- gain i is in a block of the table
+pub gain-block : (W N i : ℕ) → 1 ≤ W → W ≤ 250 → i < N * W → i / (perBlock W * W) < blocks W N
+gain-block W N i h l k =
+    let m : N * W ≤ blocks W N * perBlock W * W = mul-le-mul-right W (rows-fit W N (per-pos W h l)) in
+    div-lt-iff-lt-mul (wide-pos W h l) .1 (omega (arith, mul-assoc (blocks W N) (perBlock W) W))
+
+-- gain i of a table, the r-th of block q, is one of those that the block holds
+among : (P W N q r i : ℕ) → q * (P * W) + r ≡ i → r < P * W → i < N * W → P * q < N → r < min P (N - P * q) * W
+among P W N q r i e h l m = elim (decLt (N - P * q) P) [
+  | yes less ↦
+      let z : min P (N - P * q) ≡ N - P * q = omega arith in
+      let y : N - P * q + P * q ≡ N = omega arith in
+      rw z (omega (arith, before-block P W q, add-mul (N - P * q) (P * q) W, ap (λ (x : ℕ). x * W) y))
+  | no more ↦ let z : min P (N - P * q) ≡ P = omega arith in rw z h
+]
+
+pub held-has : (W N i : ℕ) → 1 ≤ W → W ≤ 250 → i < N * W → i % (perBlock W * W) < held W N (i / (perBlock W * W)) * W
+unfolding held
+held-has W N i h l k =
+    among (perBlock W) W N (i / (perBlock W * W)) (i % (perBlock W * W)) i (div-add-mod' i (perBlock W * W)) (mod-lt i (wide-pos W h l)) k
+    (blocks-lt W N (i / (perBlock W * W)) (per-pos W h l) (gain-block W N i h l k))
+
+-- the stored gains of block k, `count` from `start` on, are among the table's, and each is one of the gains
+module _ {W B N : ℕ} {g : List ℕ} (s : Storable W B N g) (k start count i : ℕ) (kb : k < blocks W N)
+    (from : start ≡ k * (perBlock W * W)) (many : count ≡ held W N k * W) (l : i < count) where
+  stored-at : start + i < N * W
+  stored-at = omega (arith, held-fits W N k (per-pos W (s .fits .some) (s .fits .most)) kb)
+
+  pub stored-small : start + i < 65535 * 250
+  stored-small = omega (arith, stored-at, mul-le-mul {n₂ = 65535} {m₂ = 250} (s .fits .rows) (s .fits .most))
+
+  pub stored-in : (start + i) / W * B + (start + i) % W < length g
+  stored-in =
+      let q : (start + i) / W < N = div-lt-iff-lt-mul (s .fits .some) .1 stored-at in
+      omega (arith, mul-le-mul-right B q, suc-mul ((start + i) / W) B, mod-lt (start + i) (s .fits .some), s .long, s .thin)
+
+-- where block k's gains begin
+pub start-small : {W B N : ℕ} {g : List ℕ} (k : ℕ) → Storable W B N g → k < blocks W N → k * (perBlock W * W) ≤ 65535 * 250
+start-small {W} {B} {N} k s kb =
+    omega (arith, held-fits W N k (per-pos W (s .fits .some) (s .fits .most)) kb, mul-le-mul {n₂ = 65535} {m₂ = 250} (s .fits .rows) (s .fits .most))

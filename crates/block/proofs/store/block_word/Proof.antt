@@ -1,0 +1,110 @@
+use Prim.Native.Nat.{ℕ, _+_, _-_, _*_, _/_, _%_, _<_}
+use mathlib.Core.Path.{sym, ap, _∙_}
+use native.Mathlib.Omega.{arith}
+use lib.ListN.{length}
+use Rattle.block.specs.Block.{blockWord, stored}
+use Rattle.block.proofs.Sizes.{per-pos, few-blocks, stored-small, stored-in}
+use Rattle.block.proofs.Bytes.{word-in, word-out}
+use Rattle.block.proofs.store.block_word.Statement.{statement}
+use Rattle.block.proofs.store.block_word.Tie as tie
+
+-- where a gain is stored: the sum and the index are in range
+abbrev first : tie.Then5 → tie.Start
+first c = c .before .before .before .before .before
+
+small : (c : tie.Then5) → first c .args .start + (first c .args .j - 4) < 65535 * 250
+small c = let p = first c .pre in stored-small (p .0 .0) _ _ _ _ (p .0 .1) (p .1 .0) (p .1 .1) (c .if5 .taken)
+
+inside : (c : tie.Then5)
+    → (first c .args .start + (first c .args .j - 4)) / first c .args .width * first c .args .bands
+    + (first c .args .start + (first c .args .j - 4)) % first c .args .width
+    < length (first c .args .gains .now)
+inside c = let p = first c .pre in stored-in (p .0 .0) _ _ _ _ (p .0 .1) (p .1 .0) (p .1 .1) (c .if5 .taken)
+
+returns : tie.Need-returns
+unfolding blockWord
+returns c = rw (c .if1 .taken)
+
+cast-result : tie.Need-cast-result
+cast-result c =
+    let start = c .before .before in
+    omega (arith, few-blocks _ _ _ (per-pos _ (start .pre .0 .0 .fits .some) (start .pre .0 .0 .fits .most)) (start .pre .0 .1))
+
+returns-2 : tie.Need-returns-2
+unfolding blockWord
+returns-2 c = rw (c .if2 .taken)
+
+cast-result-2 : tie.Need-cast-result-2
+cast-result-2 c = omega arith
+
+returns-3 : tie.Need-returns-3
+unfolding blockWord
+returns-3 c = rw (c .if3 .taken)
+
+cast-result-3 : tie.Need-cast-result-3
+cast-result-3 c = omega arith
+
+returns-4 : tie.Need-returns-4
+unfolding blockWord
+returns-4 c = rw (c .if4 .taken)
+
+sub-if5 : tie.Need-sub-if5
+sub-if5 c = omega arith
+
+sub-i : tie.Need-sub-i
+sub-i c = omega arith
+
+add-i : tie.Need-add-i
+add-i c = omega (arith, small c)
+
+div-result : tie.Need-div-result
+div-result c = omega arith
+
+mul-result : tie.Need-mul-result
+mul-result c = omega (arith, inside c)
+
+rem-result : tie.Need-rem-result
+rem-result c = omega arith
+
+add-result : tie.Need-add-result
+add-result c = omega (arith, inside c)
+
+mul-result-2 : tie.Need-mul-result-2
+mul-result-2 c = omega (arith, inside c)
+
+shared-slice-read-result : tie.Need-shared-slice-read-result
+shared-slice-read-result c = inside (c .before)
+
+returns-5 : tie.Need-returns-5
+unfolding stored
+returns-5 c =
+    let start = c .before .before .before .before .before .before in
+    let a = start .args in
+    ap (λ (x : ℕ). stored (a .width) (a .bands) (a .gains .now) (x + (a .j - 4))) (start .pre .1 .0)
+    ∙ sym (word-in _ _ _ _ _ _ _ (omega arith) (omega arith))
+
+returns-6 : tie.Need-returns-6
+returns-6 c = sym (word-out _ _ _ _ _ _ _ (omega arith) (omega arith))
+
+pub block-word-spec : {M : Type 1} → statement M
+block-word-spec =
+    tie.close
+    (tie.spec
+    returns
+    cast-result
+    returns-2
+    cast-result-2
+    returns-3
+    cast-result-3
+    returns-4
+    sub-if5
+    sub-i
+    add-i
+    div-result
+    mul-result
+    rem-result
+    add-result
+    mul-result-2
+    shared-slice-read-result
+    returns-5
+    returns-6)

@@ -1,0 +1,5 @@
+pub mod Limits
+pub mod Block
+pub mod Write
+pub mod Read
+pub mod Asked

@@ -1,0 +1,5 @@
+pub mod Bits
+pub mod Shares
+pub mod Order
+pub mod Nearest
+pub mod Even

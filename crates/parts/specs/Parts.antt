@@ -1,0 +1,85 @@
+-- N parts over the bands of a list of whole numbers, in the shares of its numbers (document 01, "Split"). Definitions only.
+use Prim.Native.Nat.{ℕ, _+_, _-_, _*_, _/_, _%_, _≤_, _<_}
+use mathlib.Core.Path.{_≡_}
+use mathlib.Core.Bool.{Bool, true, false, _||_, _&&_}
+use mathlib.Core.List.{List}
+use lib.Dec.{ltb, eqb}
+use lib.ListN.{length, getD}
+use Rattle.lists.specs.Index.{sumTo, tab}
+use Rattle.parts.specs.Limits.{parts}
+
+abbrev pub at : List ℕ → ℕ → ℕ
+at xs i = getD xs i 0
+
+-- the sum of a list; T of document 01, for the list a
+unfoldable pub total : List ℕ → ℕ
+total xs = sumTo (at xs) (length xs)
+
+-- a test as a number: 1 where it holds, else 0
+abbrev pub bit : Bool → ℕ
+bit true = 1
+bit false = 0
+
+-- 1 where a < b, else 0
+unfoldable pub lt1 : ℕ → ℕ → ℕ
+lt1 a b = bit (ltb a b)
+
+-- |x - y|
+abbrev pub apart : ℕ → ℕ → ℕ
+apart x y = (x - y) + (y - x)
+
+module _ (N : ℕ) (a : List ℕ) where
+  -- the whole part of band i's exact share, N a / T, and the remainder of N a by T
+  abbrev pub share : ℕ → ℕ
+  share i = (N * at a i) / total a
+
+  abbrev pub rest : ℕ → ℕ
+  rest i = (N * at a i) % total a
+
+  -- the parts left over
+  unfoldable pub over : ℕ
+  over = N - sumTo share (length a)
+
+-- band j with the remainder s comes before band i with the remainder r: a larger remainder, or an equal one and a lower band
+abbrev pub before : ℕ → ℕ → ℕ → ℕ → Bool
+before r i s j = ltb r s || (eqb r s && ltb j i)
+
+-- the same as a number
+unfoldable pub comes : ℕ → ℕ → ℕ → ℕ → ℕ
+comes r i s j = bit (before r i s j)
+
+module _ (N : ℕ) (a : List ℕ) where
+  -- how many bands come before band i
+  unfoldable pub rank : ℕ → ℕ
+  rank i = sumTo (λ j. comes (rest N a i) i (rest N a j) j) (length a)
+
+  -- its whole part, and one part more where fewer bands come before it than there are parts left over
+  unfoldable pub gain : ℕ → ℕ
+  gain i = share N a i + lt1 (rank i) (over N a)
+
+  unfoldable pub gainsOver : List ℕ
+  gainsOver = tab gain (length a)
+
+  -- the sum of |T g - N a| over the bands
+  unfoldable pub distanceOver : List ℕ → ℕ
+  distanceOver g = sumTo (λ i. apart (total a * at g i) (N * at a i)) (length a)
+
+abbrev pub gainsOf : List ℕ → List ℕ
+gainsOf a = gainsOver parts a
+
+abbrev pub distance : List ℕ → List ℕ → ℕ
+distance a g = distanceOver parts a g
+
+-- ---- for the code
+-- band j comes before band i, by a list of the remainders
+unfoldable pub ahead : List ℕ → ℕ → ℕ → ℕ
+ahead rs i j = comes (at rs i) i (at rs j) j
+
+-- what the loop over the bands has at hand for band i: the total t, the remainders rs and the parts left over
+pub record Known (a : List ℕ) (t : ℕ) (rs : List ℕ) (left i : ℕ) : Type 0 where
+  pub in-range : i < length a
+  pub room : length a ≤ length rs
+  pub sums : t ≡ total a
+  pub some : 0 < t
+  pub rests : (k : ℕ) → k < length a → at rs k ≡ rest parts a k
+  pub lefts : left ≡ parts - sumTo (share parts a) (length a)
