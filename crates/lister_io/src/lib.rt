@@ -1,11 +1,11 @@
-// What the programs over `listing` share: a table from a descriptor, and its lines or the one line of a refusal to standard output.
+// What the programs over `lister_core` share: a table from a descriptor, and its lines or the one line of a refusal to standard output.
 ghost use mathlib.Core.Path.{_≡_};
 ghost use Prim.Native.Nat.{_≤_};
 ghost use lib.ListN.{length};
-ghost use Rattle.listing.specs.Limits.{gainLimit, textLimit};
+ghost use Rattle.lister_core.specs.Limits.{gainLimit, textLimit};
 use libc::STDOUT_FILENO;
-use listing::gains_in;
-use listing::list;
+use lister_core::gains_in;
+use lister_core::list;
 
 // One byte more than document 01's limit, so that a longer input is seen to be longer.
 fn input_buffer() -> [u8; 35329]

@@ -1,12 +1,12 @@
-// What the programs over `tabulating` share: levels from a descriptor, and the table or the line of a refusal to another.
+// What the programs over `tabulate_core` share: levels from a descriptor, and the table or the line of a refusal to another.
 ghost use mathlib.Core.Path.{_≡_};
 ghost use Prim.Native.Nat.{_≤_};
 ghost use lib.ListN.{length};
 use libc::STDOUT_FILENO;
-use listing::put_refused;
-use tabulating::tabulate;
+use lister_core::put_refused;
+use tabulate_core::tabulate;
 
-// One byte more than 1,024 rows of 16 levels have; an input's first 65,537 bytes decide (tabulating/proofs/Start.antt).
+// One byte more than 1,024 rows of 16 levels have; an input's first 65,537 bytes decide (tabulate_core/proofs/Start.antt).
 fn input_buffer() -> [u8; 65537]
     ensures { λ r. ⌜ 65537 ≡ length r ⌝ }
 {

@@ -6,15 +6,15 @@ use mathlib.Core.List.{List, [], _∷_, _++_}
 use native.Mathlib.Omega.{arith}
 use lib.ListN.{replicate}
 use Rattle.lists.specs.Index.{sumTo}
-use Rattle.listing.specs.Listed.{answerText, listed}
-use Rattle.listing.proofs.Case as listing
+use Rattle.lister_core.specs.Listed.{answerText, listed}
+use Rattle.lister_core.proofs.Case as lister
 use Rattle.block.specs.Limits.{form1}
 use Rattle.block.specs.Read.{gainsOf}
 use Rattle.table.specs.Told.{tableTold}
 use Rattle.block.specs.Write.{rowOk, gainOf}
 use Rattle.block.proofs.Case as table
-use Rattle.table_trips.proofs.Readable.{told-judged}
-use Rattle.table_trips.proofs.Written.{table-reads, some-block, gains-back}
+use Rattle.table_facts.proofs.Readable.{told-judged}
+use Rattle.table_facts.proofs.Written.{table-reads, some-block, gains-back}
 
 abbrev pub oneBand : List ℕ
 oneBand = 0x01 ∷ 0x00 ∷ 0x00 ∷ 0x00 ∷ 0x01 ∷ 0x00 ∷ 0x01 ∷ 0x00 ∷ 0x00 ∷ 0x80 ∷ replicate 498 0 ++ (0x83 ∷ 0x00 ∷ 0x0D ∷ 0x05 ∷ [])
@@ -45,4 +45,4 @@ one-gains = subst (λ (s : List ℕ). gainsOf form1 s ≡ gains) table.one-band 
 pub one-listed : listed oneBand ≡ twoLines
 unfolding listed answerText
 one-listed =
-    ap (λ t. answerText t (gainsOf form1 oneBand)) one-told ∙ ap (answerText (0, 0, 1, 1)) one-gains ∙ listing.one-band
+    ap (λ t. answerText t (gainsOf form1 oneBand)) one-told ∙ ap (answerText (0, 0, 1, 1)) one-gains ∙ lister.one-band

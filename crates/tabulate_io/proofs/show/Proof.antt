@@ -3,7 +3,7 @@ use native.Mathlib.Omega.{arith}
 use lib.Seq.{length-take-le}
 use borrow.Author.Needs.{needs}
 use Rattle.digits.proofs.Written.{wrote-length}
-use Rattle.tabulating.proofs.Told.{told-fits}
+use Rattle.tabulate_core.proofs.Told.{told-fits}
 use Rattle.tabulate_io.proofs.show.Statement.{statement}
 use Rattle.tabulate_io.proofs.show.Tie as tie
 

@@ -1,0 +1,33 @@
+-- Document 01, the lister: all that it writes for an input. Definitions only.
+use Prim.Native.Nat.{ℕ, zero, suc, _*_}
+use mathlib.Core.Bool.{cond}
+use mathlib.Core.List.{List, [], _++_}
+use lib.ListN.{length, take, drop}
+use lib.Dec.{ltb, eqb}
+use Rattle.answer.specs.Answer.{judged, whenDone}
+use Rattle.block.specs.Limits.{form1}
+use Rattle.block.specs.Read.{bytesFrom, bandsOf, rowsOf, headTests, gainsOf}
+use Rattle.table.specs.Told.{tableTold}
+use Rattle.lister_core.specs.Limits.{inputLimit}
+use Rattle.lister_core.specs.Lines.{headLine, refusedLine, rowLine}
+
+-- the lines of rows 0 to n - 1, of B gains each
+unfoldable pub rowsText : ℕ → List ℕ → ℕ → List ℕ
+rowsText B gains zero = []
+rowsText B gains (suc n) = rowsText B gains n ++ rowLine n (take B (drop (n * B) gains))
+
+-- `bands B rows N`, then a line for each row
+unfoldable pub tableText : ℕ → ℕ → List ℕ → List ℕ
+tableText B N gains = headLine B N ++ rowsText B gains N
+
+-- by what is told of a table: its number, place, bands and rows
+unfoldable pub answerText : ℕ × ℕ × ℕ × ℕ → List ℕ → List ℕ
+answerText t gains = cond (eqb (t .0) 0) (tableText (t .2) (t .3) gains) (refusedLine (t .0) (t .1))
+
+-- for an input: 9 where it is too long, else the table in it or its refusal
+unfoldable pub listed : List ℕ → List ℕ
+listed s = cond (ltb inputLimit (length s)) (refusedLine 9 0) (answerText (tableTold form1 s) (gainsOf form1 s))
+
+-- how many gains are to be lent for the reading
+unfoldable pub gainsIn : List ℕ → ℕ
+gainsIn s = whenDone (judged (headTests form1 s)) (rowsOf (bytesFrom s 0) * bandsOf (bytesFrom s 0)) 0
