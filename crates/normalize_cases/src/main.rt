@@ -12,9 +12,9 @@ use libc::STDOUT_FILENO;
 use normalize::Settings;
 use normalize::normalize;
 use normalize::normalize_in_place;
-use stored::word;
-use stored_floats::floats_at;
-use stored_floats::places;
+use hex_words::word;
+use hex_words::floats_at;
+use hex_words::places;
 
 fn show_word(x: f32) {
     io::write_all(STDOUT_FILENO, b" ");

@@ -9,11 +9,11 @@ use libc::STDOUT_FILENO;
 use min_max::max_num;
 use min_max::min_max;
 use min_max::min_num;
-use stored::word;
-use stored_floats::closing;
-use stored_floats::differs;
-use stored_floats::floats_at;
-use stored_floats::places;
+use hex_words::word;
+use hex_words::closing;
+use hex_words::differs;
+use hex_words::floats_at;
+use hex_words::places;
 
 fn both_agree(src: &[f32], least: u32, largest: u32) -> bool {
     let got = min_max(src);

@@ -7,12 +7,12 @@ use libc::STDIN_FILENO;
 use normalize::Settings;
 use normalize::normalize;
 use normalize::normalize_in_place;
-use stored::word;
-use stored_floats::closing;
-use stored_floats::differs;
-use stored_floats::floats_at;
-use stored_floats::places;
-use stored_floats::same_floats;
+use hex_words::word;
+use hex_words::closing;
+use hex_words::differs;
+use hex_words::floats_at;
+use hex_words::places;
+use hex_words::same_floats;
 
 fn settings_at(text: &[u8], at: usize) -> Settings
     requires { ⌜ at ≤ 65536 ⌝ }

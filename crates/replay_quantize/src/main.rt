@@ -6,11 +6,11 @@ use answer::number;
 use floats::bits::from_pattern;
 use libc::STDIN_FILENO;
 use quantize::quantize;
-use stored::word;
-use stored_floats::closing;
-use stored_floats::differs;
-use stored_floats::floats_at;
-use stored_floats::places;
+use hex_words::word;
+use hex_words::closing;
+use hex_words::differs;
+use hex_words::floats_at;
+use hex_words::places;
 
 fn is_code(code: u8, stored: u32) -> bool {
     code as u32 == stored

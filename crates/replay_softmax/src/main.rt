@@ -5,12 +5,12 @@ use answer::number;
 use libc::STDIN_FILENO;
 use softmax::softmax;
 use softmax::softmax_in_place;
-use stored::word;
-use stored_floats::closing;
-use stored_floats::differs;
-use stored_floats::floats_at;
-use stored_floats::places;
-use stored_floats::same_floats;
+use hex_words::word;
+use hex_words::closing;
+use hex_words::differs;
+use hex_words::floats_at;
+use hex_words::places;
+use hex_words::same_floats;
 
 // Whether both calls give the stored outputs of the case at word `at`; buf and dst are the room for its elements.
 fn same_outputs(text: &[u8], at: usize, buf: &mut [f32], dst: &mut [f32]) -> bool

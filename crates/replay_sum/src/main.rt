@@ -5,11 +5,11 @@ use answer::number;
 use floats::bits::from_pattern;
 use floats::bits::pattern;
 use libc::STDIN_FILENO;
-use stored::word;
-use stored_floats::closing;
-use stored_floats::differs;
-use stored_floats::floats_at;
-use stored_floats::places;
+use hex_words::word;
+use hex_words::closing;
+use hex_words::differs;
+use hex_words::floats_at;
+use hex_words::places;
 use sum::SumOp;
 use sum::add_up;
 

@@ -6,8 +6,8 @@ use floats::bits::from_pattern;
 use floats::bits::pattern;
 use libc::STDIN_FILENO;
 use libc::STDOUT_FILENO;
-use stored::count;
-use stored::word;
+use hex_words::count;
+use hex_words::word;
 use unary::Op;
 use unary::apply;
 

@@ -7,9 +7,9 @@ use floats::word::add_word;
 use libc::STDIN_FILENO;
 use libc::STDOUT_FILENO;
 use split::split;
-use stored::word;
-use stored_floats::floats_at;
-use stored_floats::places;
+use hex_words::word;
+use hex_words::floats_at;
+use hex_words::places;
 
 fn show(n: u64) {
     io::write_all(STDOUT_FILENO, b" ");

@@ -2,8 +2,8 @@ use Prim.Native.Nat.{_-_}
 use mathlib.Core.Path.{_≡_}
 use lib.ListN.{length}
 use borrow.Author.Needs.{needs}
-use Rattle.stored_floats.proofs.floats_at.Statement.{statement}
-use Rattle.stored_floats.proofs.floats_at.Tie as tie
+use Rattle.hex_words.proofs.floats_at.Statement.{statement}
+use Rattle.hex_words.proofs.floats_at.Tie as tie
 
 abbrev Inv-loop : tie.InvT-loop
 Inv-loop text from dst₀ i₀ dst i = length dst ≡ length dst₀

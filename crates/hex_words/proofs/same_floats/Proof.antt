@@ -1,8 +1,8 @@
 use Prim.Native.Nat.{_-_, _≤_}
 use lib.ListN.{length}
 use borrow.Author.Needs.{needs}
-use Rattle.stored_floats.proofs.same_floats.Statement.{statement}
-use Rattle.stored_floats.proofs.same_floats.Tie as tie
+use Rattle.hex_words.proofs.same_floats.Statement.{statement}
+use Rattle.hex_words.proofs.same_floats.Tie as tie
 
 abbrev Inv-loop : tie.InvT-loop
 Inv-loop text from src i₀ i = (i ≤ length src)
