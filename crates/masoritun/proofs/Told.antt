@@ -15,9 +15,8 @@ use Rattle.table.specs.declared.TableAnswer.the-variants as table
 use Rattle.table.specs.declared.BlockAnswer.{BlockAnswer}
 use Rattle.table.specs.declared.BlockAnswer.the-variants as block
 use Rattle.table.proofs.Place.{read-told-place, block-told-place}
-use Rattle.masoritun.specs.Lent.{whenZero}
-use Rattle.masoritun.specs.Packed.{packed}
-use Rattle.masoritun.proofs.Packing.{old-left}
+use Rattle.pack.specs.Packed.{packed, whenZero}
+use Rattle.pack.proofs.Packing.{old-left}
 
 -- a table
 module _ (s gains : List ℕ) (a : TableAnswer) (e : tableToldOf a ≡ readTold form1 s gains) where
