@@ -11,11 +11,11 @@ use answer::Answer;
 use answer::is_done;
 use answer::number;
 use answer::place;
+use block::word::word_at;
 use digits::put_number;
 use digits::put_text;
 use table::TableAnswer;
 use table::judge::head;
-use block::word::word_at;
 
 // The most bytes of an input that are listed, the most gains of a table, and room for the text of any table.
 pub const INPUT_LIMIT: usize = 35328;

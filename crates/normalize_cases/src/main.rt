@@ -7,14 +7,14 @@ use answer::number;
 use answer::place;
 use floats::bits::from_pattern;
 use floats::bits::pattern;
+use hex_words::floats_at;
+use hex_words::places;
+use hex_words::word;
 use libc::STDIN_FILENO;
 use libc::STDOUT_FILENO;
 use normalize::Settings;
 use normalize::normalize;
 use normalize::normalize_in_place;
-use hex_words::word;
-use hex_words::floats_at;
-use hex_words::places;
 
 fn show_word(x: f32) {
     io::write_all(STDOUT_FILENO, b" ");

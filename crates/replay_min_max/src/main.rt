@@ -4,16 +4,16 @@
 ghost use Prim.Native.Nat.{_≤_};
 use answer::number;
 use floats::bits::pattern;
+use hex_words::closing;
+use hex_words::differs;
+use hex_words::floats_at;
+use hex_words::places;
+use hex_words::word;
 use libc::STDIN_FILENO;
 use libc::STDOUT_FILENO;
 use min_max::max_num;
 use min_max::min_max;
 use min_max::min_num;
-use hex_words::word;
-use hex_words::closing;
-use hex_words::differs;
-use hex_words::floats_at;
-use hex_words::places;
 
 fn both_agree(src: &[f32], least: u32, largest: u32) -> bool {
     let got = min_max(src);

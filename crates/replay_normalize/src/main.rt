@@ -3,16 +3,16 @@
 ghost use Prim.Native.Nat.{_≤_};
 use answer::number;
 use floats::bits::from_pattern;
-use libc::STDIN_FILENO;
-use normalize::Settings;
-use normalize::normalize;
-use normalize::normalize_in_place;
-use hex_words::word;
 use hex_words::closing;
 use hex_words::differs;
 use hex_words::floats_at;
 use hex_words::places;
 use hex_words::same_floats;
+use hex_words::word;
+use libc::STDIN_FILENO;
+use normalize::Settings;
+use normalize::normalize;
+use normalize::normalize_in_place;
 
 fn settings_at(text: &[u8], at: usize) -> Settings
     requires { ⌜ at ≤ 65536 ⌝ }

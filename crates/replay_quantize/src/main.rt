@@ -4,13 +4,13 @@
 ghost use Prim.Native.Nat.{_≤_};
 use answer::number;
 use floats::bits::from_pattern;
-use libc::STDIN_FILENO;
-use quantize::quantize;
-use hex_words::word;
 use hex_words::closing;
 use hex_words::differs;
 use hex_words::floats_at;
 use hex_words::places;
+use hex_words::word;
+use libc::STDIN_FILENO;
+use quantize::quantize;
 
 fn is_code(code: u8, stored: u32) -> bool {
     code as u32 == stored

@@ -2,15 +2,15 @@
 // A case is flush, n, n elements and n outputs.
 ghost use Prim.Native.Nat.{_≤_};
 use answer::number;
-use libc::STDIN_FILENO;
-use softmax::softmax;
-use softmax::softmax_in_place;
-use hex_words::word;
 use hex_words::closing;
 use hex_words::differs;
 use hex_words::floats_at;
 use hex_words::places;
 use hex_words::same_floats;
+use hex_words::word;
+use libc::STDIN_FILENO;
+use softmax::softmax;
+use softmax::softmax_in_place;
 
 // Whether both calls give the stored outputs of the case at word `at`; buf and dst are the room for its elements.
 fn same_outputs(text: &[u8], at: usize, buf: &mut [f32], dst: &mut [f32]) -> bool

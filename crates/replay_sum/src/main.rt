@@ -4,12 +4,12 @@ ghost use Prim.Native.Nat.{_≤_};
 use answer::number;
 use floats::bits::from_pattern;
 use floats::bits::pattern;
-use libc::STDIN_FILENO;
-use hex_words::word;
 use hex_words::closing;
 use hex_words::differs;
 use hex_words::floats_at;
 use hex_words::places;
+use hex_words::word;
+use libc::STDIN_FILENO;
 use sum::SumOp;
 use sum::add_up;
 

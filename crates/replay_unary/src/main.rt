@@ -4,10 +4,10 @@
 use answer::number;
 use floats::bits::from_pattern;
 use floats::bits::pattern;
-use libc::STDIN_FILENO;
-use libc::STDOUT_FILENO;
 use hex_words::count;
 use hex_words::word;
+use libc::STDIN_FILENO;
+use libc::STDOUT_FILENO;
 use unary::Op;
 use unary::apply;
 

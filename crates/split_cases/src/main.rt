@@ -4,12 +4,12 @@ ghost use Prim.Native.Nat.{_≤_};
 use answer::number;
 use answer::place;
 use floats::word::add_word;
+use hex_words::floats_at;
+use hex_words::places;
+use hex_words::word;
 use libc::STDIN_FILENO;
 use libc::STDOUT_FILENO;
 use split::split;
-use hex_words::word;
-use hex_words::floats_at;
-use hex_words::places;
 
 fn show(n: u64) {
     io::write_all(STDOUT_FILENO, b" ");

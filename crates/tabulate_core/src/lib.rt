@@ -11,11 +11,11 @@ use answer::Answer;
 use answer::is_done;
 use answer::number;
 use answer::place;
+use block::counts::blocks_of;
+use block::counts::size_ok;
 use floats::bits::from_pattern;
 use split::BAND_LIMIT;
 use split::split;
-use block::counts::blocks_of;
-use block::counts::size_ok;
 
 // Document 01's number and place, and the bytes of the table, 0 where refused.
 pub struct Tabulated {
