@@ -2,8 +2,7 @@
 ghost use mathlib.Core.Path.{_≡_};
 ghost use Rattle.answer.specs.Answer.{isDone, classOf, whereOf, numberOf, placeOf};
 
-// The most elements that a kernel or a feeding takes; refusal 2 is for more.
-pub const ELEMENT_LIMIT: usize = 16384;
+pub mod limits;
 
 pub enum Refusal {
     Length,

@@ -1,8 +1,8 @@
 // A meter of samples: their count, the sum of their squares, the least and the largest. Each feeding takes the meter and hands the next one back.
 ghost use mathlib.Core.Path.{_≡_};
 ghost use Rattle.meter.specs.Meter.{soundMeter, newMeter, feedOf, fedTold};
-use answer::ELEMENT_LIMIT;
 use answer::Refusal;
+use answer::limits::ELEMENT_LIMIT;
 use min_max::look;
 use sum::SumOp;
 use sum::folded;

@@ -13,8 +13,8 @@ use crate::folds::largest_on;
 use crate::folds::look_four;
 use crate::folds::look_on;
 use answer::Answer;
-use answer::ELEMENT_LIMIT;
 use answer::Refusal;
+use answer::limits::ELEMENT_LIMIT;
 use floats::bits::infinity;
 
 pub struct Extremes {

@@ -10,8 +10,8 @@ ghost use Rattle.normalize.specs.Normal.{resultAt, unfitOf, settingsOk, 
 use crate::Settings;
 use crate::result_at;
 use answer::Answer;
-use answer::ELEMENT_LIMIT;
 use answer::Refusal;
+use answer::limits::ELEMENT_LIMIT;
 use floats::bits::is_finite;
 use floats::scan::any_not_finite;
 

@@ -8,18 +8,18 @@ use lib.ListN.{length, replicate, length-replicate, getD-replicate}
 use Rattle.lists.specs.Index.{sumTo, tab}
 use Rattle.lists.proofs.Sum.{sum-same, sum-const}
 use Rattle.lists.proofs.Tab.{tab-same}
-use Rattle.parts.specs.Parts.{at, total, lt1, share, rest, over, comes, rank, gain, gainsOver}
+use Rattle.parts.specs.Parts.{at, total, lt1, share, remainder, left, ahead, rank, gain, gainsOver}
 use Rattle.parts.proofs.Bits.{by-lt, lt1-yes, lt1-no}
-use Rattle.parts.proofs.Order.{before-lt1}
+use Rattle.parts.proofs.Order.{ahead-is}
 
 sum-below : (n i : ℕ) → sumTo (λ j. lt1 j i) n ≡ min n i
 unfolding sumTo
 sum-below zero i = omega arith
 sum-below (suc n) i = by-lt n i (λ l e. omega (arith, sum-below n i)) (λ l e. omega (arith, sum-below n i))
 
--- of equal remainders the lower band comes first
-comes-same : (r i j : ℕ) → comes r i r j ≡ lt1 j i
-comes-same r i j = before-lt1 r i r j ∙ by-lt j i
+-- of equal remainders the lower band is ahead
+ahead-same : (r i j : ℕ) → ahead r i r j ≡ lt1 j i
+ahead-same r i j = ahead-is r i r j ∙ by-lt j i
     (λ l e. lt1-yes {a = r} {b = r + lt1 j i} (omega arith) ∙ sym e)
     (λ l e. lt1-no {a = r} {b = r + lt1 j i} (omega arith) ∙ sym e)
 
@@ -44,25 +44,25 @@ module _ (N n x : ℕ) (some : 0 < x) where
   evens-share : (i : ℕ) → i < n → share N (evens n x) i ≡ N / n
   evens-share i l = ap₂ (λ u v. (N * u) / v) (evens-at n x i l) (evens-total n x) ∙ mul-div-mul-right N n some
 
-  evens-over : over N (evens n x) ≡ N % n
-  unfolding over
-  evens-over = omega (arith, over-evens n x (share N (evens n x)) (N / n) evens-share, div-add-mod N n)
+  evens-left : left N (evens n x) ≡ N % n
+  unfolding left
+  evens-left = omega (arith, over-evens n x (share N (evens n x)) (N / n) evens-share, div-add-mod N n)
 
-  evens-rest : (i j : ℕ) → i < n → j < n → rest N (evens n x) j ≡ rest N (evens n x) i
-  evens-rest i j l m = ap (λ u. (N * u) % total (evens n x)) (evens-at n x j m ∙ sym (evens-at n x i l))
+  evens-remainder : (i j : ℕ) → i < n → j < n → remainder N (evens n x) j ≡ remainder N (evens n x) i
+  evens-remainder i j l m = ap (λ u. (N * u) % total (evens n x)) (evens-at n x j m ∙ sym (evens-at n x i l))
 
   evens-rank : (i : ℕ) → i < n → rank N (evens n x) i ≡ i
   unfolding rank
   evens-rank i l =
-      let r = rest N (evens n x) i in
-      ap (sumTo (λ j. comes r i (rest N (evens n x) j) j)) (evens-length n x)
-      ∙ sum-same _ (λ j. lt1 j i) n (λ j m. ap (λ u. comes r i u j) (evens-rest i j l m) ∙ comes-same r i j)
+      let r = remainder N (evens n x) i in
+      ap (sumTo (λ j. ahead r i (remainder N (evens n x) j) j)) (evens-length n x)
+      ∙ sum-same _ (λ j. lt1 j i) n (λ j m. ap (λ u. ahead r i u j) (evens-remainder i j l m) ∙ ahead-same r i j)
       ∙ sum-below n i
       ∙ omega arith
 
   evens-gain : (i : ℕ) → i < n → gain N (evens n x) i ≡ N / n + lt1 i (N % n)
   unfolding gain
-  evens-gain i l = ap₂ _+_ (evens-share i l) (ap₂ lt1 (evens-rank i l) evens-over)
+  evens-gain i l = ap₂ _+_ (evens-share i l) (ap₂ lt1 (evens-rank i l) evens-left)
 
   pub evens-gains : gainsOver N (evens n x) ≡ tab (λ i. N / n + lt1 i (N % n)) n
   unfolding gainsOver

@@ -12,9 +12,9 @@ use lib.ListN.{length}
 use Rattle.lists.specs.Index.{sumTo}
 use Rattle.lists.proofs.Sum.{sum-same, sum-add, sum-bound}
 use Rattle.lists.proofs.Tab.{tab-length, tab-at}
-use Rattle.parts.specs.Parts.{at, total, apart, lt1, share, rest, over, rank, gain, gainsOver, distanceOver}
+use Rattle.parts.specs.Parts.{at, total, apart, lt1, share, remainder, left, rank, gain, gainsOver, distanceOver}
 use Rattle.parts.proofs.Shares.{split-at, split-all, shares-fit}
-use Rattle.parts.proofs.Order.{before-lt1, Threshold, threshold}
+use Rattle.parts.proofs.Order.{ahead-is, Threshold, threshold}
 
 -- g is no worse than x for one band, y being N a
 abbrev Better : ℕ → ℕ → ℕ → ℕ → ℕ → Type 0
@@ -56,37 +56,37 @@ all-bands zero c d f f′ g g′ h = omega arith
 all-bands (suc n) c d f f′ g g′ h = omega (arith, all-bands n c d f f′ g g′ (λ i l. h i (omega arith)), h n (omega arith))
 
 module _ (N : ℕ) (a : List ℕ) (some : 0 < total a) where
-  over-is : sumTo (share N a) (length a) + over N a ≡ N
-  unfolding over
-  over-is = omega (arith, shares-fit N a some)
+  left-is : sumTo (share N a) (length a) + left N a ≡ N
+  unfolding left
+  left-is = omega (arith, shares-fit N a some)
 
-  over-fits : over N a ≤ length a
-  over-fits =
-      let b = sum-bound (total a) (rest N a) (length a) (λ i l. omega (arith, mod-lt (N * at a i) some)) in
-      le-of-mul-le-mul-left (omega (arith, split-all N a some, ap (λ x. total a * x) over-is)) some
+  left-fits : left N a ≤ length a
+  left-fits =
+      let b = sum-bound (total a) (remainder N a) (length a) (λ i l. omega (arith, mod-lt (N * at a i) some)) in
+      le-of-mul-le-mul-left (omega (arith, split-all N a some, ap (λ x. total a * x) left-is)) some
 
-  rank-is : (i : ℕ) → rank N a i ≡ sumTo (λ j. lt1 (rest N a i) (rest N a j + lt1 j i)) (length a)
+  rank-is : (i : ℕ) → rank N a i ≡ sumTo (λ j. lt1 (remainder N a i) (remainder N a j + lt1 j i)) (length a)
   unfolding rank
-  rank-is i = sum-same _ _ (length a) (λ j l. before-lt1 (rest N a i) i (rest N a j) j)
+  rank-is i = sum-same _ _ (length a) (λ j l. ahead-is (remainder N a i) i (remainder N a j) j)
 
   -- the part more that band i gets
   more : ℕ → ℕ
-  more i = lt1 (sumTo (λ j. lt1 (rest N a i) (rest N a j + lt1 j i)) (length a)) (over N a)
+  more i = lt1 (sumTo (λ j. lt1 (remainder N a i) (remainder N a j + lt1 j i)) (length a)) (left N a)
 
   gain-is : (i : ℕ) → gain N a i ≡ share N a i + more i
   unfolding gain more
-  gain-is i = ap (λ x. share N a i + lt1 x (over N a)) (rank-is i)
+  gain-is i = ap (λ x. share N a i + lt1 x (left N a)) (rank-is i)
 
-  held : Threshold (length a) (rest N a) more (total a) (over N a)
+  cut : Threshold (length a) (remainder N a) more (total a) (left N a)
   unfolding more
-  held = threshold (length a) (rest N a) (total a) (over N a) (λ j l. omega (arith, mod-lt (N * at a j) some)) over-fits
+  cut = threshold (length a) (remainder N a) (total a) (left N a) (λ j l. omega (arith, mod-lt (N * at a j) some)) left-fits
 
   gains-sum : sumTo (gain N a) (length a) ≡ N
   gains-sum =
       sum-same _ _ (length a) (λ i l. gain-is i)
       ∙ sum-add (share N a) more (length a)
-      ∙ ap (λ x. sumTo (share N a) (length a) + x) (held .all)
-      ∙ over-is
+      ∙ ap (λ x. sumTo (share N a) (length a) + x) (cut .all)
+      ∙ left-is
 
   pub gains-length : length (gainsOver N a) ≡ length a
   unfolding gainsOver
@@ -105,13 +105,13 @@ module _ (N : ℕ) (a : List ℕ) (some : 0 < total a) where
   pub gains-nearest : (g : List ℕ) → length g ≡ length a → total g ≡ N → distanceOver N a (gainsOver N a) ≤ distanceOver N a g
   unfolding distanceOver total
   gains-nearest g len sum =
-      let b = all-bands (length a) (total a) (2 * held .ρ) (off (at (gainsOver N a))) (off (at g)) (at (gainsOver N a)) (at g) bands in
+      let b = all-bands (length a) (total a) (2 * cut .ρ) (off (at (gainsOver N a))) (off (at g)) (at (gainsOver N a)) (at g) bands in
       omega (
         arith,
         ap (λ x. total a * x) mine,
         ap (λ x. total a * x) its,
-        ap (λ x. held .ρ * x) mine,
-        ap (λ x. held .ρ * x) its,
+        ap (λ x. cut .ρ * x) mine,
+        ap (λ x. cut .ρ * x) its,
       )
     where
       off : (ℕ → ℕ) → ℕ → ℕ
@@ -123,8 +123,8 @@ module _ (N : ℕ) (a : List ℕ) (some : 0 < total a) where
       its : sumTo (at g) (length a) ≡ N
       its = ap (sumTo (at g)) (sym len) ∙ sum
 
-      bands : (i : ℕ) → i < length a → Better (total a) (held .ρ) (N * at a i) (at (gainsOver N a) i) (at g i)
+      bands : (i : ℕ) → i < length a → Better (total a) (cut .ρ) (N * at a i) (at (gainsOver N a) i) (at g i)
       bands i l =
           rw (gains-at i l, gain-is i)
-          (one-band (total a) (held .ρ) (rest N a i) (share N a i) (more i) (at g i) (N * at a i) (split-at N a some i) (held .small)
-          (mod-lt (N * at a i) some) (held .each i l))
+          (one-band (total a) (cut .ρ) (remainder N a i) (share N a i) (more i) (at g i) (N * at a i) (split-at N a some i) (cut .small)
+          (mod-lt (N * at a i) some) (cut .each i l))

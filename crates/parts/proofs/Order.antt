@@ -1,6 +1,6 @@
--- Of n bands with remainders r, exactly L have fewer than L bands before them, for any L ≤ n, and a threshold parts them from the others.
--- A place is a remainder and a band, (ρ, m): `ahead ρ m` counts the bands that come before it. From the last place, before which no band
--- comes, to (0, n), which all precede, the count grows by at most one a step, so it is L at some place: the threshold. Assumes nothing.
+-- Of n bands with remainders r, exactly L have fewer than L bands ahead of them, for any L ≤ n, and a threshold parts them from the others.
+-- A place is a remainder and a band, (ρ, m): `count ρ m` is how many bands are ahead of it. From the last place, which none
+-- is ahead of, to (0, n), which all are, the count grows by at most one a step, so it is L at some place: the threshold. Assumes nothing.
 use Prim.Native.Nat.{ℕ, zero, suc, _+_, _≤_, _<_}
 use mathlib.Core.Path.{_≡_, sym, ap, _∙_}
 use mathlib.Core.Logic.{_⊎_, inl, inr, ⊎-elim}
@@ -10,13 +10,13 @@ use native.Mathlib.Nat.{eq-or-lt-of-le, le-of-eq}
 use borrow.Author.Tests.{lt-ltb, le-ltb, eq-eqb, ne-eqb}
 use Rattle.lists.specs.Index.{sumTo}
 use Rattle.lists.proofs.Sum.{sum-same, sum-le, sum-lt, sum-bound, sum-ones, sum-one}
-use Rattle.parts.specs.Parts.{lt1, comes}
+use Rattle.parts.specs.Parts.{lt1, ahead}
 use Rattle.parts.proofs.Bits.{by-lt, lt1-yes, lt1-no, lt1-small, lt1-mono}
 
--- the same as `before`: the remainder, one higher for a lower band, is the larger
-pub before-lt1 : (ρ m s j : ℕ) → comes ρ m s j ≡ lt1 ρ (s + lt1 j m)
-unfolding lt1 comes
-before-lt1 ρ m s j =
+-- a band is ahead where its remainder, one higher for a lower band, is the larger
+pub ahead-is : (ρ m s j : ℕ) → ahead ρ m s j ≡ lt1 ρ (s + lt1 j m)
+unfolding lt1 ahead
+ahead-is ρ m s j =
     by-lt ρ s
     (λ p e. simp (lt-ltb ρ s p) (sym (lt1-yes {a = ρ} {b = s + lt1 j m} (omega arith))))
     (λ p e. ⊎-elim
@@ -30,16 +30,16 @@ before-lt1 ρ m s j =
         (λ l e. e ∙ sym (lt1-no {a = ρ} {b = s + lt1 j m} (omega arith)))
 
 module _ (n : ℕ) (r : ℕ → ℕ) where
-  -- 1 where band j comes before the place (ρ, m)
-  abbrev ahead : ℕ → ℕ → ℕ → ℕ
-  ahead ρ m j = lt1 ρ (r j + lt1 j m)
+  -- 1 where band j is ahead of the place (ρ, m)
+  abbrev aheadOf : ℕ → ℕ → ℕ → ℕ
+  aheadOf ρ m j = lt1 ρ (r j + lt1 j m)
 
   count : ℕ → ℕ → ℕ
-  count ρ m = sumTo (ahead ρ m) n
+  count ρ m = sumTo (aheadOf ρ m) n
 
   count-step : (ρ m : ℕ) → count ρ (suc m) ≤ count ρ m + 1
   unfolding count
-  count-step ρ m = sum-one (ahead ρ (suc m)) (ahead ρ m) n m
+  count-step ρ m = sum-one (aheadOf ρ (suc m)) (aheadOf ρ m) n m
       (omega (arith, lt1-small ρ (r m + lt1 m (suc m))))
       (λ j q. lt1-mono ρ (r j + lt1 j (suc m)) ρ (r j + lt1 j m) (omega (arith, tests j q)))
     where
@@ -48,12 +48,12 @@ module _ (n : ℕ) (r : ℕ → ℕ) where
 
   count-wrap : (ρ : ℕ) → count ρ 0 ≤ count (suc ρ) n
   unfolding count
-  count-wrap ρ = sum-le (ahead ρ 0) (ahead (suc ρ) n) n
+  count-wrap ρ = sum-le (aheadOf ρ 0) (aheadOf (suc ρ) n) n
       (λ j l. lt1-mono ρ (r j + lt1 j 0) (suc ρ) (r j + lt1 j n) (omega (arith, lt1-yes {a = j} {b = n} l, lt1-no {a = j} {b = 0} (omega arith))))
 
   count-all : n ≤ count 0 n
   unfolding count
-  count-all = sum-ones (ahead 0 n) n (λ j l. lt1-yes {a = 0} {b = r j + lt1 j n} (omega (arith, lt1-yes {a = j} {b = n} l)))
+  count-all = sum-ones (aheadOf 0 n) n (λ j l. lt1-yes {a = 0} {b = r j + lt1 j n} (omega (arith, lt1-yes {a = j} {b = n} l)))
 
   Place : ℕ → ℕ → Type 0
   Place T L = (ρ : ℕ) × (m : ℕ) × (ρ ≤ T) × (count ρ m ≡ L)
@@ -77,31 +77,31 @@ module _ (n : ℕ) (r : ℕ → ℕ) where
   unfolding count
   count-zero T h =
       let none : (j : ℕ) → lt1 j 0 ≡ 0 = λ j. lt1-no {a = j} {b = 0} (omega arith) in
-      omega (arith, sum-bound 0 (ahead T 0) n (λ j l. le-of-eq (lt1-no {a = T} {b = r j + lt1 j 0} (omega (arith, h j l, none j)))))
+      omega (arith, sum-bound 0 (aheadOf T 0) n (λ j l. le-of-eq (lt1-no {a = T} {b = r j + lt1 j 0} (omega (arith, h j l, none j)))))
 
-  -- how many bands come before band i
+  -- how many bands are ahead of band i
   abbrev rankOf : ℕ → ℕ
   rankOf i = count (r i) i
 
-  -- a band before the place has fewer bands before it than the place has, and any other at least as many
-  first : (ρ m i : ℕ) → i < n → lt1 (rankOf i) (count ρ m) ≡ ahead ρ m i
+  -- a band ahead of the place has fewer bands ahead of it than the place has, and any other at least as many
+  first : (ρ m i : ℕ) → i < n → lt1 (rankOf i) (count ρ m) ≡ aheadOf ρ m i
   unfolding count
   first ρ m i b = by-lt ρ (r i + lt1 i m)
       (λ p e. lt1-yes {a = rankOf i} {b = count ρ m}
-      (sum-lt (ahead (r i) i) (ahead ρ m) n i b (omega (arith, self, e)) (λ j l. fewer p j))
+      (sum-lt (aheadOf (r i) i) (aheadOf ρ m) n i b (omega (arith, self, e)) (λ j l. fewer p j))
       ∙ sym e)
-      (λ p e. lt1-no {a = rankOf i} {b = count ρ m} (sum-le (ahead ρ m) (ahead (r i) i) n (λ j l. more p j)) ∙ sym e)
+      (λ p e. lt1-no {a = rankOf i} {b = count ρ m} (sum-le (aheadOf ρ m) (aheadOf (r i) i) n (λ j l. more p j)) ∙ sym e)
     where
       self : lt1 (r i) (r i + lt1 i i) ≡ 0
       self = lt1-no {a = r i} {b = r i + lt1 i i} (omega (arith, lt1-no {a = i} {b = i} (omega arith)))
 
-      fewer : ρ < r i + lt1 i m → (j : ℕ) → ahead (r i) i j ≤ ahead ρ m j
+      fewer : ρ < r i + lt1 i m → (j : ℕ) → aheadOf (r i) i j ≤ aheadOf ρ m j
       fewer p j = lt1-mono (r i) (r j + lt1 j i) ρ (r j + lt1 j m)
           (by-lt i m
           (λ l e. omega (arith, lt1-mono j i j m (omega arith)))
           (λ l e. omega (arith, lt1-small j i)))
 
-      more : r i + lt1 i m ≤ ρ → (j : ℕ) → ahead ρ m j ≤ ahead (r i) i j
+      more : r i + lt1 i m ≤ ρ → (j : ℕ) → aheadOf ρ m j ≤ aheadOf (r i) i j
       more p j = lt1-mono ρ (r j + lt1 j m) (r i) (r j + lt1 j i)
           (by-lt i m
           (λ l e. omega (arith, lt1-small j m))
@@ -125,11 +125,11 @@ threshold n r T L h fits = go (find n r T L fits T (omega arith) (omega (arith, 
     go p = record {
       ρ = p .0;
       small = p .2;
-      all = sum-same _ (ahead n r (p .0) (p .1)) n (λ i l. is i l) ∙ p .3;
+      all = sum-same _ (aheadOf n r (p .0) (p .1)) n (λ i l. is i l) ∙ p .3;
       each = λ i l. by-lt (p .0) (r i + lt1 i (p .1))
           (λ q e. inl (is i l ∙ e, omega (arith, lt1-small i (p .1))))
           (λ q e. inr (is i l ∙ e, omega arith));
     }
       where
-        is : (i : ℕ) → i < n → lt1 (sumTo (λ j. lt1 (r i) (r j + lt1 j i)) n) L ≡ ahead n r (p .0) (p .1) i
+        is : (i : ℕ) → i < n → lt1 (sumTo (λ j. lt1 (r i) (r j + lt1 j i)) n) L ≡ aheadOf n r (p .0) (p .1) i
         is i l = ap (lt1 (rankOf n r i)) (sym (p .3)) ∙ first n r (p .0) (p .1) i l

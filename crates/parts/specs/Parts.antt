@@ -6,7 +6,6 @@ use mathlib.Core.List.{List}
 use lib.Dec.{ltb, eqb}
 use lib.ListN.{length, getD}
 use Rattle.lists.specs.Index.{sumTo, tab}
-use Rattle.parts.specs.Limits.{parts}
 
 abbrev pub at : List ℕ → ℕ → ℕ
 at xs i = getD xs i 0
@@ -33,29 +32,25 @@ module _ (N : ℕ) (a : List ℕ) where
   abbrev pub share : ℕ → ℕ
   share i = (N * at a i) / total a
 
-  abbrev pub rest : ℕ → ℕ
-  rest i = (N * at a i) % total a
+  abbrev pub remainder : ℕ → ℕ
+  remainder i = (N * at a i) % total a
 
   -- the parts left over
-  unfoldable pub over : ℕ
-  over = N - sumTo share (length a)
+  unfoldable pub left : ℕ
+  left = N - sumTo share (length a)
 
--- band j with the remainder s comes before band i with the remainder r: a larger remainder, or an equal one and a lower band
-abbrev pub before : ℕ → ℕ → ℕ → ℕ → Bool
-before r i s j = ltb r s || (eqb r s && ltb j i)
-
--- the same as a number
-unfoldable pub comes : ℕ → ℕ → ℕ → ℕ → ℕ
-comes r i s j = bit (before r i s j)
+-- 1 where band j with the remainder s is ahead of band i with the remainder r: a larger remainder, or an equal one and a lower band
+unfoldable pub ahead : ℕ → ℕ → ℕ → ℕ → ℕ
+ahead r i s j = bit (ltb r s || (eqb r s && ltb j i))
 
 module _ (N : ℕ) (a : List ℕ) where
-  -- how many bands come before band i
+  -- how many bands are ahead of band i
   unfoldable pub rank : ℕ → ℕ
-  rank i = sumTo (λ j. comes (rest N a i) i (rest N a j) j) (length a)
+  rank i = sumTo (λ j. ahead (remainder N a i) i (remainder N a j) j) (length a)
 
-  -- its whole part, and one part more where fewer bands come before it than there are parts left over
+  -- its whole part, and one part more where fewer bands are ahead of it than there are parts left over
   unfoldable pub gain : ℕ → ℕ
-  gain i = share N a i + lt1 (rank i) (over N a)
+  gain i = share N a i + lt1 (rank i) (left N a)
 
   unfoldable pub gainsOver : List ℕ
   gainsOver = tab gain (length a)
@@ -64,22 +59,18 @@ module _ (N : ℕ) (a : List ℕ) where
   unfoldable pub distanceOver : List ℕ → ℕ
   distanceOver g = sumTo (λ i. apart (total a * at g i) (N * at a i)) (length a)
 
-abbrev pub gainsOf : List ℕ → List ℕ
-gainsOf a = gainsOver parts a
-
-abbrev pub distance : List ℕ → List ℕ → ℕ
-distance a g = distanceOver parts a g
-
 -- ---- for the code
--- band j comes before band i, by a list of the remainders
-unfoldable pub ahead : List ℕ → ℕ → ℕ → ℕ
-ahead rs i j = comes (at rs i) i (at rs j) j
+-- band j is ahead of band i, by a list of the remainders
+unfoldable pub aheadIn : List ℕ → ℕ → ℕ → ℕ
+aheadIn rs i j = ahead (at rs i) i (at rs j) j
 
--- what the loop over the bands has at hand for band i: the total t, the remainders rs and the parts left over
-pub record Known (a : List ℕ) (t : ℕ) (rs : List ℕ) (left i : ℕ) : Type 0 where
+-- what the loop over the bands has at hand for band i of N parts, which fit 16 bits with one more: the total t, the remainders rs and the
+-- parts left over
+pub record Known (N : ℕ) (a : List ℕ) (t : ℕ) (rs : List ℕ) (leftOver i : ℕ) : Type 0 where
+  pub small : N < 65535
   pub in-range : i < length a
   pub room : length a ≤ length rs
   pub sums : t ≡ total a
   pub some : 0 < t
-  pub rests : (k : ℕ) → k < length a → at rs k ≡ rest parts a k
-  pub lefts : left ≡ parts - sumTo (share parts a) (length a)
+  pub remainders : (k : ℕ) → k < length a → at rs k ≡ remainder N a k
+  pub lefts : leftOver ≡ N - sumTo (share N a) (length a)

@@ -1,13 +1,9 @@
-// PARTS parts over the bands, in the shares of whole numbers.
+// So many parts over the bands, in the shares of whole numbers. For the split.
 ghost use mathlib.Core.Path.{_≡_};
 ghost use Prim.Native.Nat.{_<_, _≤_};
 ghost use lib.ListN.{length};
 ghost use Rattle.lists.specs.Index.{sumTo, Filled};
-ghost use Rattle.parts.specs.Limits.{parts};
-ghost use Rattle.parts.specs.Parts.{total, comes, ahead, share, rest, gain, gainsOf, Known};
-
-// The parts that the gains add up to.
-pub const PARTS: u64 = 32768;
+ghost use Rattle.parts.specs.Parts.{total, ahead, aheadIn, share, remainder, gain, gainsOver, Known};
 
 fn sum(a: &[u32]) -> u64
     requires { ⌜ length (now a) ≤ 64 ⌝ }
@@ -22,9 +18,9 @@ fn sum(a: &[u32]) -> u64
     t
 }
 
-// Whether band j, with the remainder s, comes before band i, with the remainder r: 1 or 0.
-fn goes_first(r: u64, i: usize, s: u64, j: usize) -> usize
-    ensures { λ x. ⌜ (x ≡ comes r i s j) × (x ≤ 1) ⌝ }
+// Whether band j, with the remainder s, is ahead of band i, with the remainder r: 1 or 0.
+fn is_ahead(r: u64, i: usize, s: u64, j: usize) -> usize
+    ensures { λ x. ⌜ (x ≡ ahead r i s j) × (x ≤ 1) ⌝ }
 {
     if r < s {
         return 1;
@@ -32,33 +28,33 @@ fn goes_first(r: u64, i: usize, s: u64, j: usize) -> usize
     if r == s && j < i { 1 } else { 0 }
 }
 
-// How many of the first n bands come before band i, by their remainders.
-fn rank(rests: &[u64], n: usize, i: usize) -> usize
-    requires { ⌜ (n ≤ length (now rests)) × (i < n) ⌝ }
-    ensures { λ r. ⌜ r ≡ sumTo (ahead (now (rests .entry)) i) n ⌝ }
+// How many of the first n bands are ahead of band i, by their remainders.
+fn rank(remainders: &[u64], n: usize, i: usize) -> usize
+    requires { ⌜ (n ≤ length (now remainders)) × (i < n) ⌝ }
+    ensures { λ r. ⌜ r ≡ sumTo (aheadIn (now (remainders .entry)) i) n ⌝ }
 {
-    let r = rests[i];
+    let r = remainders[i];
     let mut k: usize = 0;
     let mut j = 0;
     while j < n {
-        k += goes_first(r, i, rests[j], j);
+        k += is_ahead(r, i, remainders[j], j);
         j += 1;
     }
     k
 }
 
 // Stores the remainder of each band, and returns the sum of the whole parts.
-fn whole(a: &[u32], t: u64, rests: &mut [u64]) -> u64
-    requires { ⌜ (length (now a) ≤ 64) × (length (now a) ≤ length (now rests)) × (t ≡ total (now a)) × (0 < t) ⌝ }
+fn whole(parts: u64, a: &[u32], t: u64, remainders: &mut [u64]) -> u64
+    requires { ⌜ (length (now a) ≤ 64) × (length (now a) ≤ length (now remainders)) × (t ≡ total (now a)) × (0 < t) × (parts < 65535) ⌝ }
     ensures used { λ r. ⌜ r ≡ sumTo (share parts (now (a .entry))) (length (now (a .entry))) ⌝ }
-    ensures rests { λ r.
-        ⌜ Filled 0 (now (rests .entry)) (now (rests .exit)) (length (now (a .entry))) (rest parts (now (a .entry))) ⌝ }
+    ensures remainders { λ r.
+        ⌜ Filled 0 (now (remainders .entry)) (now (remainders .exit)) (length (now (a .entry))) (remainder parts (now (a .entry))) ⌝ }
 {
     let mut used: u64 = 0;
     let mut i = 0;
     while i < a.len() {
-        let x = PARTS * (a[i] as u64);
-        rests[i] = x % t;
+        let x = parts * (a[i] as u64);
+        remainders[i] = x % t;
         used += x / t;
         i += 1;
     }
@@ -66,27 +62,27 @@ fn whole(a: &[u32], t: u64, rests: &mut [u64]) -> u64
 }
 
 // The gain of band i: its whole part, and one more where its rank is below the parts left over.
-fn gain_at(a: &[u32], t: u64, rests: &[u64], left: u64, i: usize) -> u16
-    requires { ⌜ Known (now a) t (now rests) left i ⌝ }
+fn gain_of(parts: u64, a: &[u32], t: u64, remainders: &[u64], left: u64, i: usize) -> u16
+    requires { ⌜ Known parts (now a) t (now remainders) left i ⌝ }
     ensures { λ r. ⌜ r ≡ gain parts (now (a .entry)) i ⌝ }
 {
-    let q = PARTS * (a[i] as u64) / t;
-    let k = rank(rests, a.len(), i) as u64;
+    let q = parts * (a[i] as u64) / t;
+    let k = rank(remainders, a.len(), i) as u64;
     if k < left { (q + 1) as u16 } else { q as u16 }
 }
 
 // The gains of the bands, by their steps.
-pub fn part(a: &[u32], gains: &mut [u16])
-    requires { ⌜ (length (now a) ≤ 64) × (length (now gains) ≡ length (now a)) × (0 < total (now a)) ⌝ }
-    ensures { λ _. ⌜ now (gains .exit) ≡ gainsOf (now (a .entry)) ⌝ }
+pub fn part(parts: u64, a: &[u32], gains: &mut [u16])
+    requires { ⌜ (length (now a) ≤ 64) × (length (now gains) ≡ length (now a)) × (0 < total (now a)) × (parts < 65535) ⌝ }
+    ensures { λ _. ⌜ now (gains .exit) ≡ gainsOver parts (now (a .entry)) ⌝ }
 {
     let t = sum(a);
-    let mut rests = [0u64; 64];
-    let used = whole(a, t, &mut rests);
-    let left = PARTS - used;
+    let mut remainders = [0u64; 64];
+    let used = whole(parts, a, t, &mut remainders);
+    let left = parts - used;
     let mut i = 0;
     while i < a.len() {
-        gains[i] = gain_at(a, t, &rests, left, i);
+        gains[i] = gain_of(parts, a, t, &remainders, left, i);
         i += 1;
     }
 }

@@ -22,7 +22,7 @@ use Rattle.softmax.specs.Softmax.{firstOutside, allMasked, softmaxAnswer, softm
 use Rattle.floats.proofs.Each.{Each}
 use Rattle.softmax_facts.proofs.Called.{some-or-none}
 use Rattle.softmax_facts.proofs.Facts.{Input}
-use Rattle.split.specs.Limits.{bandLimit}
+use Rattle.answer.specs.Limits.{bandLimit}
 use Rattle.split.specs.Split.{tests}
 
 -- the tests that softmax makes too

@@ -6,10 +6,9 @@ use borrow.Author.Tests.{ltb-true, ltb-false}
 use lib.Ieee.{Float}
 use lib.ListN.{length}
 use Rattle.answer.specs.Answer.{placeOf}
-use Rattle.answer.specs.Limits.{elementLimit}
+use Rattle.answer.specs.Limits.{elementLimit, bandLimit}
 use Rattle.answer.proofs.Bounded.{place-bounded}
 use Rattle.softmax.specs.Softmax.{firstOutside}
-use Rattle.split.specs.Limits.{bandLimit}
 use Rattle.split.specs.Split.{tests, splitAnswer}
 
 pub split-place : (s : List Float) (g : List ℕ) → placeOf (splitAnswer s g) ≤ elementLimit

@@ -27,7 +27,7 @@ use Rattle.softmax_facts.proofs.Facts.{Input, SoftmaxFacts, softmax-facts, exps
 use Rattle.softmax_facts.proofs.Reciprocal.{recip-between}
 use Rattle.softmax_facts.proofs.Sum.{countF, count-finite}
 use Rattle.floats.proofs.Order.{finite-between}
-use Rattle.split.specs.Limits.{stepCount}
+use Rattle.answer.specs.Limits.{stepCount}
 use Rattle.parts.specs.Parts.{at, total}
 use Rattle.split.specs.Split.{stepsOf, levelSteps}
 

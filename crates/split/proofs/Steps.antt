@@ -16,7 +16,7 @@ use Rattle.floats.proofs.Scaled.{Casts, product, rounded, even-fits, casts}
 use Rattle.floats.proofs.Near.{closest-exact}
 use Rattle.floats.proofs.Pattern.{fits-sign}
 use Rattle.floats.proofs.Signed.{le→⊑}
-use Rattle.split.specs.Limits.{stepPower, stepCount}
+use Rattle.answer.specs.Limits.{stepPower, stepCount}
 use Rattle.split.specs.Split.{isWeight, stepsOf}
 
 -- the code's factor

@@ -7,13 +7,13 @@ use lib.ListN.{length}
 use lib.Ieee.{Float, le}
 use lib.Ieee.Nearest.{closest}
 use Rattle.answer.specs.Answer.{Test, judged, whenDone, toldOf}
+use Rattle.answer.specs.Limits.{parts, stepCount, bandLimit}
 use Rattle.answer.specs.declared.Answer.{Answer}
 use Rattle.answer.specs.declared.Refusal.the-variants.{Count, Length, Domain, Masked}
 use Rattle.consts.specs.Consts.{zeroF, oneF}
 use Rattle.floats.specs.Fraction.{frac}
 use Rattle.softmax.specs.Softmax.{firstOutside, allMasked, weightsOf}
-use Rattle.split.specs.Limits.{stepCount, bandLimit}
-use Rattle.parts.specs.Parts.{gainsOf}
+use Rattle.parts.specs.Parts.{gainsOver, distanceOver}
 
 -- The weight times 2 ^ 24, exactly, to the nearest whole number, ties to even. (0 for what is negative or not finite, which no weight is.)
 unfoldable pub stepsOf : Float → ℕ
@@ -25,24 +25,31 @@ isWeight w = T (le zeroF w) × T (le w oneF)
 
 -- the numbers a of document 01: the softmax weights in steps
 unfoldable pub levelSteps : List Float → List ℕ
-levelSteps s = map stepsOf (weightsOf s)
+levelSteps levels = map stepsOf (weightsOf levels)
+
+-- the gains of the numbers a, and how far a list of gains lies from their exact shares: the sum of |T g - 32768 a|
+abbrev pub gainsOf : List ℕ → List ℕ
+gainsOf a = gainsOver parts a
+
+abbrev pub distance : List ℕ → List ℕ → ℕ
+distance a gains = distanceOver parts a gains
 
 -- refusals 7, 1, 4, 5
 abbrev pub tests : List Float → List ℕ → List Test
-tests s g =
-    (ltb (length s) 1, Count)
-    ∷ (ltb bandLimit (length s), Count)
-    ∷ (not (eqb (length s) (length g)), Length)
-    ∷ (ltb (firstOutside s) (length s), Domain (firstOutside s))
-    ∷ (allMasked s, Masked)
+tests levels gains =
+    (ltb (length levels) 1, Count)
+    ∷ (ltb bandLimit (length levels), Count)
+    ∷ (not (eqb (length levels) (length gains)), Length)
+    ∷ (ltb (firstOutside levels) (length levels), Domain (firstOutside levels))
+    ∷ (allMasked levels, Masked)
     ∷ []
 
 unfoldable pub splitAnswer : List Float → List ℕ → Answer
-splitAnswer s g = judged (tests s g)
+splitAnswer levels gains = judged (tests levels gains)
 
--- what the call tells, and what it leaves in g
+-- what the call tells, and what it leaves in the gains
 abbrev pub splitTold : List Float → List ℕ → ℕ × ℕ
-splitTold s g = toldOf (splitAnswer s g)
+splitTold levels gains = toldOf (splitAnswer levels gains)
 
 abbrev pub splitOut : List Float → List ℕ → List ℕ
-splitOut s g = whenDone (splitAnswer s g) (gainsOf (levelSteps s)) g
+splitOut levels gains = whenDone (splitAnswer levels gains) (gainsOf (levelSteps levels)) gains

@@ -5,21 +5,18 @@ ghost use Prim.Native.Nat.{ℕ, _<_, _≤_};
 ghost use lib.Ieee.{nan};
 ghost use lib.ListN.{length, getD};
 ghost use Rattle.answer.specs.Answer.{toldOf};
-ghost use Rattle.split.specs.Limits.{stepCount, bandLimit};
+ghost use Rattle.answer.specs.Limits.{stepCount, bandLimit};
 ghost use Rattle.split.specs.Split.{isWeight, stepsOf, splitTold, splitOut};
 use answer::Answer;
 use answer::Refusal;
 use answer::is_done;
+use answer::limits::BAND_LIMIT;
+use answer::limits::PARTS;
+use answer::limits::STEPS;
 use floats::bits::abs;
 use floats::round::round_ties_even;
 use parts::part;
 use softmax::softmax;
-
-// The steps of a weight of 1.
-pub const STEPS: f32 = 16777216.0;
-
-// The most bands.
-pub const BAND_LIMIT: usize = 16;
 
 // A weight in steps. The product is exact, and an f64 casts at every whole number below 2^32. (`abs` is for -0, which casts to none.)
 pub fn steps_of(weight: f32) -> u32
@@ -55,7 +52,7 @@ fn by_weights(levels: &[f32], weights: &mut [f32], steps: &mut [u32], gains: &mu
         return answer;
     }
     steps_all(weights, steps);
-    part(steps, gains);
+    part(PARTS as u64, steps, gains);
     answer
 }
 
@@ -74,7 +71,7 @@ pub fn split(levels: &[f32], gains: &mut [u16]) -> Answer
     if n != gains.len() {
         return Answer::Refused(Refusal::Length);
     }
-    let mut weights = [0.0f32; 64];
-    let mut steps = [0u32; 64];
+    let mut weights = [0.0f32; BAND_LIMIT];
+    let mut steps = [0u32; BAND_LIMIT];
     by_weights(levels, &mut weights[..n], &mut steps[..n], gains)
 }

@@ -16,9 +16,9 @@ use Rattle.lists.specs.Index.{sumTo, tab, firstNot}
 use Rattle.min_max.specs.MinMax.{extremeFrom}
 use Rattle.sum.specs.Sum.{sumFrom}
 use Rattle.softmax.specs.Softmax.{firstOutside, allMasked, maxOf, expsOf, sumOf, weightsOf}
-use Rattle.split.specs.Limits.{bandLimit}
-use Rattle.parts.specs.Parts.{total, lt1, over, comes, rank, gain, gainsOver, gainsOf}
-use Rattle.split.specs.Split.{stepsOf, levelSteps, splitAnswer}
+use Rattle.answer.specs.Limits.{bandLimit}
+use Rattle.parts.specs.Parts.{total, lt1, left, ahead, rank, gain, gainsOver}
+use Rattle.split.specs.Split.{gainsOf, stepsOf, levelSteps, splitAnswer}
 use Rattle.split_facts.proofs.Equal.{equal-bands}
 use Rattle.split_facts.proofs.Splits.{Splits}
 
@@ -52,7 +52,7 @@ computed {s} {l} c g n =
 
 far-masked : Computed (zeroF ∷ f32 0xc2c8_0000 ∷ []) (32768 ∷ 0 ∷ [])
     × Computed (zeroF ∷ inf true ∷ zeroF ∷ []) (16384 ∷ 0 ∷ 16384 ∷ [])
-unfolding ofBits firstNot firstOutside allMasked levelSteps weightsOf sumOf sumFrom expsOf maxOf extremeFrom reducedRangeExpOf stepsOf add sub mul div round lt toSigned gainsOver gain rank over comes total sumTo tab lt1
+unfolding ofBits firstNot firstOutside allMasked levelSteps weightsOf sumOf sumFrom expsOf maxOf extremeFrom reducedRangeExpOf stepsOf add sub mul div round lt toSigned gainsOver gain rank left ahead total sumTo tab lt1
 far-masked = (
   record { some = refl; few = refl; inside = refl; shown = refl; gains = refl },
   record { some = refl; few = refl; inside = refl; shown = refl; gains = refl },

@@ -15,10 +15,9 @@ use Rattle.floats.proofs.Near.{Near}
 use Rattle.floats.proofs.Signed.{nonneg-under}
 use Rattle.softmax.specs.Softmax.{weightsOf}
 use Rattle.softmax_facts.proofs.Facts.{softmax-facts}
-use Rattle.parts.specs.Limits.{parts}
-use Rattle.split.specs.Limits.{stepCount}
-use Rattle.parts.specs.Parts.{at, total, distance}
-use Rattle.split.specs.Split.{levelSteps}
+use Rattle.answer.specs.Limits.{parts, stepCount}
+use Rattle.parts.specs.Parts.{at, total}
+use Rattle.split.specs.Split.{distance, levelSteps}
 use Rattle.split.proofs.Determined.{Allowed}
 use Rattle.split.proofs.Positive.{steps-at, level-steps-length}
 use Rattle.parts.proofs.Nearest.{gains-length, gains-total, gains-nearest}

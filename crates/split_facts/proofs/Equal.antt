@@ -14,10 +14,9 @@ use Rattle.consts.specs.Consts.{oneF}
 use Rattle.lists.specs.Index.{tab}
 use Rattle.lists.proofs.Tab.{map-replicate}
 use Rattle.softmax.specs.Softmax.{maxOf, expLess, expsOf, sumOf, weightsOf}
-use Rattle.parts.specs.Limits.{parts}
-use Rattle.split.specs.Limits.{bandLimit}
-use Rattle.parts.specs.Parts.{total, lt1, gainsOf}
-use Rattle.split.specs.Split.{stepsOf, levelSteps}
+use Rattle.answer.specs.Limits.{parts, bandLimit}
+use Rattle.parts.specs.Parts.{total, lt1}
+use Rattle.split.specs.Split.{gainsOf, stepsOf, levelSteps}
 use Rattle.parts.proofs.Even.{evens-total, evens-gains}
 use Rattle.split_facts.proofs.Splits.{Levels, Splits, levels-total, levels-split}
 

@@ -18,9 +18,9 @@ use Rattle.softmax.specs.Softmax.{inDomain}
 use Rattle.floats.proofs.Each.{Each, Some}
 use Rattle.softmax_facts.proofs.Called.{called}
 use Rattle.softmax_facts.proofs.Facts.{Input}
-use Rattle.split.specs.Limits.{stepCount, bandLimit}
-use Rattle.parts.specs.Parts.{total, gainsOf}
-use Rattle.split.specs.Split.{stepsOf, levelSteps, splitAnswer, splitTold, splitOut}
+use Rattle.answer.specs.Limits.{stepCount, bandLimit}
+use Rattle.parts.specs.Parts.{total}
+use Rattle.split.specs.Split.{gainsOf, stepsOf, levelSteps, splitAnswer, splitTold, splitOut}
 use Rattle.split.proofs.Passed.{lastTests, softmax-rest, past-counts}
 use Rattle.split.proofs.Positive.{steps-total}
 

@@ -9,8 +9,8 @@ ghost use Rattle.sum.specs.Sum.{stepOf, sumFrom, offsetOk, totalTold, ad
 mod folds;
 
 use answer::Answer;
-use answer::ELEMENT_LIMIT;
 use answer::Refusal;
+use answer::limits::ELEMENT_LIMIT;
 use floats::bits::is_finite;
 use floats::scan::first_not_finite;
 

@@ -21,8 +21,7 @@ use Rattle.answer.specs.Answer.{judged}
 use Rattle.answer.specs.declared.Answer.the-variants.{Done}
 use Rattle.answer.proofs.Chain.{done-is, opened, gives, skip, found-none, clear}
 use Rattle.floats.proofs.Each.{Each}
-use Rattle.parts.specs.Limits.{parts}
-use Rattle.split.specs.Limits.{bandLimit}
+use Rattle.answer.specs.Limits.{parts, bandLimit}
 use Rattle.parts.specs.Parts.{at, total}
 use Rattle.split.specs.Split.{levelSteps, splitAnswer}
 use Rattle.split.proofs.Passed.{lastTests, done-input}

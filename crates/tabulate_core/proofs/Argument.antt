@@ -10,7 +10,7 @@ use borrow.Author.Tests.{le-leb, lt-leb}
 use lib.Dec.{leb}
 use lib.ListN.{length, getD, drop, drop-of-length-le}
 use lib.Seq.{drop-cons}
-use Rattle.split.specs.Limits.{bandLimit}
+use Rattle.answer.specs.Limits.{bandLimit}
 use Rattle.tabulate_core.specs.Argument.{isDigit, allDigits, valueFrom, bandsFrom}
 
 value-grows : (v : ℕ) (w : List ℕ) → v ≤ valueFrom v w

@@ -18,8 +18,7 @@ use Rattle.answer.specs.Limits.{elementLimit}
 use Rattle.answer.proofs.Chain.{done-is}
 use Rattle.answer.proofs.Numbers.{told-one, zero-done}
 use Rattle.lists.proofs.First.{Passed, first-at, first-end}
-use Rattle.parts.specs.Parts.{gainsOf}
-use Rattle.split.specs.Split.{levelSteps, splitAnswer, splitTold, splitOut}
+use Rattle.split.specs.Split.{gainsOf, levelSteps, splitAnswer, splitTold, splitOut}
 use Rattle.split.proofs.Place.{split-place}
 use Rattle.block.specs.Limits.{form1}
 use Rattle.tabulate_core.specs.Rows.{levelsFrom, rowLevels, rowAnswer, rowGains, gainsTo, refusedRow, rowTold, stopOf}

@@ -2,7 +2,7 @@
 ghost use mathlib.Core.Path.{_≡_};
 ghost use Prim.Native.Nat.{_+_, _*_, _≤_, _<_};
 ghost use lib.ListN.{length};
-ghost use Rattle.split.specs.Limits.{bandLimit};
+ghost use Rattle.answer.specs.Limits.{bandLimit};
 ghost use Rattle.tabulate_core.specs.Argument.{bandsIn};
 ghost use Rattle.tabulate_core.specs.Rows.{patternOf, levelAt, levelsFrom};
 ghost use Rattle.tabulate_core.specs.Asked.{Row, Shaped, Split};

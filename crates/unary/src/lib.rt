@@ -12,8 +12,8 @@ mod looks;
 
 use crate::looks::any_outside;
 use answer::Answer;
-use answer::ELEMENT_LIMIT;
 use answer::Refusal;
+use answer::limits::ELEMENT_LIMIT;
 use consts::LARGE_THRESHOLD;
 use floats::bits::abs;
 use floats::bits::is_finite;

@@ -4,7 +4,6 @@ use native.Mathlib.Omega.{arith}
 use lib.ListN.{length}
 use Rattle.lists.specs.Index.{Filled}
 use Rattle.lists.proofs.Placed.{placed-none, placed-more, filled-all}
-use Rattle.parts.specs.Limits.{parts}
 use Rattle.parts.specs.Parts.{gain, gainsOver}
 use Rattle.parts.proofs.Shares.{shares-fit}
 use borrow.Author.Needs.{needs}
@@ -12,10 +11,10 @@ use Rattle.parts.proofs.part.Statement.{statement}
 use Rattle.parts.proofs.part.Tie as tie
 
 abbrev Inv-loop : tie.InvT-loop
-Inv-loop a gains₀ t rests used left i₀ gains i = (i ≤ length a) × Filled 0 gains₀ gains i (gain parts a)
+Inv-loop parts a gains₀ t remainders used left i₀ gains i = (i ≤ length a) × Filled 0 gains₀ gains i (gain parts a)
 
 abbrev μ-loop : tie.MeasureT-loop
-μ-loop a gains₀ t rests used left i₀ gains i = length a - i
+μ-loop parts a gains₀ t remainders used left i₀ gains i = length a - i
 
 sum-requires : tie.Need-sum-requires Inv-loop μ-loop
 sum-requires c κs = search needs
@@ -24,29 +23,30 @@ slice-aggregate-whole : tie.Need-slice-aggregate-whole Inv-loop μ-loop
 slice-aggregate-whole c = search needs
 
 whole-requires : tie.Need-whole-requires Inv-loop μ-loop
-whole-requires c κs = (omega arith, omega arith, c .before .sum .ensures, omega arith)
+whole-requires c κs = (omega arith, omega arith, c .before .sum .ensures, omega arith, search needs)
 
 sub-left : tie.Need-sub-left Inv-loop μ-loop
 sub-left c =
     let start = c .before .before .before .before .before .before in
-    omega (arith, shares-fit parts (start .args .a .now) (start .pre .2))
+    omega (arith, shares-fit (start .args .parts) (start .args .a .now) (start .pre .2))
 
 loop-holds : tie.Need-loop-holds Inv-loop μ-loop
 loop-holds c = (omega arith, placed-none _ _ _)
 
-slice-aggregate-gain-at : tie.Need-slice-aggregate-gain-at Inv-loop μ-loop
-slice-aggregate-gain-at c = search needs
+slice-aggregate-gain-of : tie.Need-slice-aggregate-gain-of Inv-loop μ-loop
+slice-aggregate-gain-of c = search needs
 
-gain-at-requires : tie.Need-gain-at-requires Inv-loop μ-loop
-gain-at-requires c κs =
+gain-of-requires : tie.Need-gain-of-requires Inv-loop μ-loop
+gain-of-requires c κs =
     let w = c .before .before .before .before in
     record {
+      small = omega arith;
       in-range = search needs;
       room = omega (arith, w .whole .ensures .1 .long);
       sums = w .before .before .sum .ensures;
       some = omega arith;
-      rests = λ k l. w .whole .ensures .1 .run k (omega arith) l;
-      lefts = ap (λ u. parts - u) (w .whole .ensures .0);
+      remainders = λ k l. w .whole .ensures .1 .run k (omega arith) l;
+      lefts = ap (λ u. w .before .before .before .before .before .args .parts - u) (w .whole .ensures .0);
     }
 
 mul-gains : tie.Need-mul-gains Inv-loop μ-loop
@@ -64,7 +64,7 @@ loop-less c = search needs
 loop-again : tie.Need-loop-again Inv-loop μ-loop
 loop-again c =
     let at = c .before .before .before in
-    (omega arith, placed-more _ (at .loop .gains) 0 (at .loop .i) _ _ (at .loop .inv .1) (omega arith) (omega arith) (c .gain-at .ensures))
+    (omega arith, placed-more _ (at .loop .gains) 0 (at .loop .i) _ _ (at .loop .inv .1) (omega arith) (omega arith) (c .gain-of .ensures))
 
 same-length : tie.Need-same-length Inv-loop μ-loop
 same-length c = c .before .loop .inv .1 .long
@@ -84,8 +84,8 @@ part-spec =
     whole-requires
     sub-left
     loop-holds
-    slice-aggregate-gain-at
-    gain-at-requires
+    slice-aggregate-gain-of
+    gain-of-requires
     mul-gains
     slice-write-gains
     add-i

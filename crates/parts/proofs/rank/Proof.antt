@@ -3,16 +3,16 @@ use mathlib.Core.Path.{_≡_, ap, _∙_}
 use native.Mathlib.Omega.{arith}
 use Rattle.lists.specs.Index.{sumTo}
 use Rattle.lists.proofs.Sum.{sum-none, sum-more}
-use Rattle.parts.specs.Parts.{ahead}
+use Rattle.parts.specs.Parts.{aheadIn}
 use borrow.Author.Needs.{needs}
 use Rattle.parts.proofs.rank.Statement.{statement}
 use Rattle.parts.proofs.rank.Tie as tie
 
 abbrev Inv-loop : tie.InvT-loop
-Inv-loop rests n i r k₀ j₀ k j = (j ≤ n) × (k ≡ sumTo (ahead rests i) j) × (k ≤ j)
+Inv-loop remainders n i r k₀ j₀ k j = (j ≤ n) × (k ≡ sumTo (aheadIn remainders i) j) × (k ≤ j)
 
 abbrev μ-loop : tie.MeasureT-loop
-μ-loop rests n i r k₀ j₀ k j = n - j
+μ-loop remainders n i r k₀ j₀ k j = n - j
 
 mul-r : tie.Need-mul-r Inv-loop μ-loop
 mul-r c = search needs
@@ -23,14 +23,14 @@ shared-slice-read-r c = search needs
 loop-holds : tie.Need-loop-holds Inv-loop μ-loop
 loop-holds c = (omega arith, sum-none _, omega arith)
 
-mul-goes-first : tie.Need-mul-goes-first Inv-loop μ-loop
-mul-goes-first c = search needs
+mul-is-ahead : tie.Need-mul-is-ahead Inv-loop μ-loop
+mul-is-ahead c = search needs
 
-shared-slice-read-goes-first : tie.Need-shared-slice-read-goes-first Inv-loop μ-loop
-shared-slice-read-goes-first c = search needs
+shared-slice-read-is-ahead : tie.Need-shared-slice-read-is-ahead Inv-loop μ-loop
+shared-slice-read-is-ahead c = search needs
 
-goes-first-requires : tie.Need-goes-first-requires Inv-loop μ-loop
-goes-first-requires c κs = search needs
+is-ahead-requires : tie.Need-is-ahead-requires Inv-loop μ-loop
+is-ahead-requires c κs = search needs
 
 add-k : tie.Need-add-k Inv-loop μ-loop
 add-k c = search needs
@@ -42,15 +42,15 @@ loop-less : tie.Need-loop-less Inv-loop μ-loop
 loop-less c = search needs
 
 loop-again : tie.Need-loop-again Inv-loop μ-loop
-unfolding ahead
+unfolding aheadIn
 loop-again c =
     let at = c .before .before .before in
-    (omega arith, sum-more _ (at .loop .j) (at .loop .k) _ (at .loop .inv .1) (c .goes-first .ensures .0), omega arith)
+    (omega arith, sum-more _ (at .loop .j) (at .loop .k) _ (at .loop .inv .1) (c .is-ahead .ensures .0), omega arith)
 
 returns : tie.Need-returns Inv-loop μ-loop
 returns c =
     let a = c .before .before .before .before .args in
-    c .before .loop .inv .1 ∙ ap (sumTo (ahead (a .rests .now) (a .i))) (omega arith)
+    c .before .loop .inv .1 ∙ ap (sumTo (aheadIn (a .remainders .now) (a .i))) (omega arith)
 
 pub rank-spec : {M : Type 1} → statement M
 rank-spec =
@@ -61,9 +61,9 @@ rank-spec =
     mul-r
     shared-slice-read-r
     loop-holds
-    mul-goes-first
-    shared-slice-read-goes-first
-    goes-first-requires
+    mul-is-ahead
+    shared-slice-read-is-ahead
+    is-ahead-requires
     add-k
     add-j
     loop-less

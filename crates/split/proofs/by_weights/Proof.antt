@@ -17,8 +17,8 @@ use Rattle.floats.proofs.Each.{Each}
 use Rattle.floats.proofs.Between.{Between}
 use Rattle.softmax_facts.proofs.Called.{called}
 use Rattle.softmax_facts.proofs.Facts.{Input, softmax-facts, weights-length}
-use Rattle.parts.specs.Parts.{total, gainsOf}
-use Rattle.split.specs.Split.{stepsOf, levelSteps, splitAnswer}
+use Rattle.parts.specs.Parts.{total}
+use Rattle.split.specs.Split.{gainsOf, stepsOf, levelSteps, splitAnswer}
 use Rattle.split.proofs.Passed.{lastTests, softmax-rest, done-input, past-counts}
 use Rattle.split.proofs.Positive.{level-steps-length, steps-total}
 use Rattle.split.proofs.by_weights.Statement.{statement}
@@ -93,7 +93,7 @@ part-requires c κs =
     let a = steps (c .before .before .before .before) in
     let l = ap length a ∙ level-steps-length s in
     let few : length s ≤ 64 = omega arith in
-    (omega arith, sym (p .2) ∙ sym l, subst (λ l. 0 < total l) (sym a) (steps-total s (input e) few))
+    (omega arith, sym (p .2) ∙ sym l, subst (λ l. 0 < total l) (sym a) (steps-total s (input e) few), omega arith)
 
 same-length-2 : tie.Need-same-length-2
 same-length-2 c = search needs

@@ -3,7 +3,7 @@ use mathlib.Core.Path.{_≡_, refl, _∙_}
 use native.Mathlib.Omega.{arith}
 use lib.ListN.{length, drop}
 use borrow.Author.Needs.{needs}
-use Rattle.split.specs.Limits.{bandLimit}
+use Rattle.answer.specs.Limits.{bandLimit}
 use Rattle.tabulate_core.specs.Argument.{bandsFrom, bandsIn}
 use Rattle.tabulate_core.proofs.Argument.{word-more, word-below, word-above, word-large, word-end}
 use Rattle.tabulate_core.proofs.bands_in.Statement.{statement}

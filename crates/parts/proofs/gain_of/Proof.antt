@@ -1,9 +1,9 @@
 use native.Mathlib.Omega.{arith}
 use mathlib.Core.Path.{refl}
-use Rattle.parts.proofs.Shares.{known-fits, known-more, known-same}
+use Rattle.parts.proofs.Shares.{product-small, known-fits, known-more, known-same}
 use borrow.Author.Needs.{needs}
-use Rattle.parts.proofs.gain_at.Statement.{statement}
-use Rattle.parts.proofs.gain_at.Tie as tie
+use Rattle.parts.proofs.gain_of.Statement.{statement}
+use Rattle.parts.proofs.gain_of.Tie as tie
 
 mul-q : tie.Need-mul-q
 mul-q c = search needs
@@ -15,7 +15,9 @@ cast-q : tie.Need-cast-q
 cast-q c = omega (arith, c .shared-slice-known3 .given (c .before .before .before .args .i))
 
 mul-q-2 : tie.Need-mul-q-2
-mul-q-2 c = omega (arith, c .shared-slice-known3 .given (c .before .before .before .args .i))
+mul-q-2 c =
+    let start = c .before .before .before in
+    omega (arith, product-small (start .pre .small) (c .shared-slice-known3 .given (start .args .i) .fits))
 
 div-q : tie.Need-div-q
 div-q c = search needs
@@ -38,8 +40,8 @@ returns c = known-more (c .before .before .before .before .before .pre) refl (c 
 returns-2 : tie.Need-returns-2
 returns-2 c = known-same (c .before .before .before .before .before .pre) refl (c .before .rank .ensures) (c .if1 .left)
 
-pub gain-at-spec : {M : Type 1} → statement M
-gain-at-spec =
+pub gain-of-spec : {M : Type 1} → statement M
+gain-of-spec =
     tie.close
     (tie.spec
     mul-q

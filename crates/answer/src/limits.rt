@@ -1,0 +1,19 @@
+// The limits that document 01 names, one line each, and the numbers that follow from them; specs/Limits.antt says what each is for.
+pub const ELEMENT_LIMIT: usize = 16384;
+
+pub const PARTS: usize = 32768;
+
+pub const STEPS: f32 = 16777216.0;
+
+pub const BAND_LIMIT: usize = 16;
+
+pub const ROW_LIMIT: usize = 1024;
+
+// What follows.
+pub const GAIN_LIMIT: usize = ROW_LIMIT * BAND_LIMIT;
+
+pub const TABLE_LIMIT: usize = 512 * ((ROW_LIMIT + (250 / BAND_LIMIT - 1)) / (250 / BAND_LIMIT));
+
+pub const LEVEL_LIMIT: usize = 4 * GAIN_LIMIT + 1;
+
+pub const TEXT_LIMIT: usize = (6 * BAND_LIMIT + 11) * ROW_LIMIT + 64;
