@@ -2,5 +2,6 @@ pub mod Sizes
 pub mod Bytes
 pub mod Storing
 pub mod Totals
+pub mod Given
 pub mod Tests
-pub mod Case
+pub mod Cases

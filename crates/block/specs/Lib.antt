@@ -1,4 +1,4 @@
-pub mod Limits
+pub mod Form
 pub mod Block
 pub mod Write
 pub mod Read

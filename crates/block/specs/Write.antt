@@ -8,12 +8,16 @@ use Rattle.lists.specs.Index.{sumTo, firstNot}
 use Rattle.answer.specs.Answer.{Test, judged, toldOf, whenDone}
 use Rattle.answer.specs.declared.Answer.{Answer}
 use Rattle.answer.specs.declared.Refusal.the-variants.{Count, Length, StoredLength, RowTotal}
-use Rattle.block.specs.Limits.{Form}
+use Rattle.block.specs.Form.{Form}
 use Rattle.block.specs.Block.{blocks, tableBytes}
 
--- bands and rows within their limits
-abbrev pub sizeOk : Form → ℕ → ℕ → Bool
-sizeOk F B N = leb 1 B && (leb B (F .bandLimit) && (leb 1 N && leb N (F .rowLimit)))
+-- `least` to `most` bands, 1 to `last` rows
+abbrev pub within : ℕ → ℕ → ℕ → ℕ → ℕ → Bool
+within least most last B N = leb least B && (leb B most && (leb 1 N && leb N last))
+
+-- bands and rows within a form's limits
+abbrev pub shapeOkBy : Form → ℕ → ℕ → Bool
+shapeOkBy F B N = within (F .least) (F .most) (F .rows) B N
 
 -- row r of the gains f, B to a row, adds up, as whole numbers
 unfoldable pub rowOk : ℕ → (ℕ → ℕ) → ℕ → ℕ → Bool
@@ -27,19 +31,19 @@ badRow parts f B n = firstNot (rowOk parts f B) n
 abbrev pub gainOf : List ℕ → ℕ → ℕ
 gainOf gains i = getD gains i 0
 
-abbrev pub writeTests : Form → ℕ → ℕ → List ℕ → ℕ → List Test
-writeTests F B N gains room =
-    (not (sizeOk F B N), Count)
+abbrev pub writeTestsBy : Form → ℕ → ℕ → List ℕ → ℕ → List Test
+writeTestsBy F B N gains room =
+    (not (shapeOkBy F B N), Count)
     ∷ (not (eqb (length gains) (N * B)), Length)
     ∷ (not (eqb room (512 * blocks (F .width B) N)), StoredLength)
     ∷ (ltb (badRow (F .parts) (gainOf gains) B N) N, RowTotal (badRow (F .parts) (gainOf gains) B N))
     ∷ []
 
-unfoldable pub writeAnswer : Form → ℕ → ℕ → List ℕ → ℕ → Answer
-writeAnswer F B N gains room = judged (writeTests F B N gains room)
+unfoldable pub writeAnswerBy : Form → ℕ → ℕ → List ℕ → ℕ → Answer
+writeAnswerBy F B N gains room = judged (writeTestsBy F B N gains room)
 
-abbrev pub writeTold : Form → ℕ → ℕ → List ℕ → List ℕ → ℕ × ℕ
-writeTold F B N gains bytes = toldOf (writeAnswer F B N gains (length bytes))
+abbrev pub writeToldBy : Form → ℕ → ℕ → List ℕ → List ℕ → ℕ × ℕ
+writeToldBy F B N gains bytes = toldOf (writeAnswerBy F B N gains (length bytes))
 
-abbrev pub writeOut : Form → ℕ → ℕ → List ℕ → List ℕ → List ℕ
-writeOut F B N gains bytes = whenDone (writeAnswer F B N gains (length bytes)) (tableBytes (F .code) (F .width B) B N gains) bytes
+abbrev pub writeOutBy : Form → ℕ → ℕ → List ℕ → List ℕ → List ℕ
+writeOutBy F B N gains bytes = whenDone (writeAnswerBy F B N gains (length bytes)) (tableBytes (F .code) (F .width B) B N gains) bytes

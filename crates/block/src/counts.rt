@@ -1,17 +1,18 @@
 // How many: bands and rows within their limits, blocks of a table, rows of a block. For the crates above.
 ghost use mathlib.Core.Path.{_≡_};
 ghost use Prim.Native.Nat.{_<_};
-ghost use Rattle.block.specs.Limits.{form1};
+ghost use Rattle.answer.specs.Limits.{bandLimit, rowLimit};
 ghost use Rattle.block.specs.Block.{blocks, held};
-ghost use Rattle.block.specs.Write.{sizeOk};
+ghost use Rattle.block.specs.Write.{within};
 ghost use Rattle.block.specs.Asked.{Fits};
-use crate::BAND_LIMIT;
-use crate::ROW_LIMIT;
+use answer::limits::BAND_LIMIT;
+use answer::limits::ROW_LIMIT;
 
-pub fn size_ok(bands: usize, rows: usize) -> bool
-    ensures { λ r. ⌜ r ≡ sizeOk form1 bands rows ⌝ }
+// Bands and rows within their limits; least is the form's.
+pub fn shape_ok(least: usize, bands: usize, rows: usize) -> bool
+    ensures { λ r. ⌜ r ≡ within least bandLimit rowLimit bands rows ⌝ }
 {
-    if bands < 1 {
+    if bands < least {
         return false;
     }
     if BAND_LIMIT < bands {

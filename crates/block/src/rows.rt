@@ -3,11 +3,11 @@ ghost use mathlib.Core.Path.{_≡_};
 ghost use Prim.Native.Nat.{ℕ, _+_, _*_, _≤_};
 ghost use lib.ListN.{length};
 ghost use Rattle.lists.specs.Index.{sumTo};
-ghost use Rattle.block.specs.Limits.{form1};
+ghost use Rattle.answer.specs.Limits.{parts};
 ghost use Rattle.block.specs.Write.{badRow, gainOf};
 ghost use Rattle.block.specs.Read.{bytesFrom, wordAt, gainIn};
-use crate::PARTS;
 use crate::word::word_at;
+use answer::limits::PARTS;
 
 fn row_sum(gains: &[u16], at: usize, n: usize) -> usize
     requires { ⌜ (at + n ≤ length (now gains)) × (n ≤ 250) ⌝ }
@@ -25,7 +25,7 @@ fn row_sum(gains: &[u16], at: usize, n: usize) -> usize
 // The first row that does not add up, or rows.
 pub fn bad_row(gains: &[u16], bands: usize, rows: usize) -> usize
     requires { ⌜ (length (now gains) ≡ rows * bands) × (bands ≤ 250) ⌝ }
-    ensures { λ r. ⌜ r ≡ badRow (form1 .parts) (gainOf (now (gains .entry))) bands rows ⌝ }
+    ensures { λ r. ⌜ r ≡ badRow parts (gainOf (now (gains .entry))) bands rows ⌝ }
 {
     let mut r = 0;
     let mut at = 0;
@@ -58,7 +58,7 @@ fn row_sum_at(bytes: &[u8], at: usize, first: usize, n: usize) -> usize
 // The first of n rows of the block from at on that does not add up, or n.
 pub fn bad_row_at(bytes: &[u8], at: usize, bands: usize, n: usize) -> usize
     requires { ⌜ (at + 8 + 2 * (n * bands) ≤ length (now bytes)) × (bands ≤ 250) ⌝ }
-    ensures { λ r. ⌜ r ≡ badRow (form1 .parts) (gainIn (bytesFrom (now (bytes .entry)) at)) bands n ⌝ }
+    ensures { λ r. ⌜ r ≡ badRow parts (gainIn (bytesFrom (now (bytes .entry)) at)) bands n ⌝ }
 {
     let mut r = 0;
     let mut p = 8;

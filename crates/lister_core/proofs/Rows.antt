@@ -7,6 +7,7 @@ use native.Mathlib.Numerals.{add-one}
 use native.Mathlib.Omega.{arith}
 use lib.ListN.{length, take, drop, length-drop}
 use lib.Seq.{length-take-le}
+use Rattle.answer.specs.Limits.{bandLimit, lineRoom}
 use Rattle.digits.specs.Text.{Wrote}
 use Rattle.digits.proofs.Written.{written-none, wrote-join}
 use Rattle.lister_core.specs.Lines.{headLine, rowLine}
@@ -14,13 +15,13 @@ use Rattle.lister_core.specs.Listed.{rowsText, tableText}
 use Rattle.lister_core.proofs.Room.{Put}
 
 -- no row yet
-pub rows-none : (B : ℕ) (s : List ℕ) (at : ℕ) (a : List ℕ) → at ≤ length a → Put (107 * 0) (rowsText B s 0) at a a at
+pub rows-none : (B : ℕ) (s : List ℕ) (at : ℕ) (a : List ℕ) → at ≤ length a → Put (lineRoom bandLimit * 0) (rowsText B s 0) at a a at
 unfolding rowsText
 rows-none B s at a h = record { wrote = record { ends = omega arith; fits = h; bytes = written-none at a }; short = omega arith }
 
 -- one row more
-pub rows-more : (B : ℕ) (s : List ℕ) (n p q at : ℕ) (a b d : List ℕ) (e f : ℕ) → p ≡ n * B → q ≡ p + B → Put (107 * n) (rowsText B s n) at a b e
-    → Wrote (rowLine n (take (q - p) (drop p s))) e b d f → f ≤ e + 107 → Put (107 * (n + 1)) (rowsText B s (n + 1)) at a d f
+pub rows-more : (B : ℕ) (s : List ℕ) (n p q at : ℕ) (a b d : List ℕ) (e f : ℕ) → p ≡ n * B → q ≡ p + B → Put (lineRoom bandLimit * n) (rowsText B s n) at a b e
+    → Wrote (rowLine n (take (q - p) (drop p s))) e b d f → f ≤ e + lineRoom bandLimit → Put (lineRoom bandLimit * (n + 1)) (rowsText B s (n + 1)) at a d f
 unfolding rowsText
 rows-more B s n p q at a b d e f hp hq w v l =
     let k : q - p ≡ B = omega arith in

@@ -4,11 +4,11 @@ use mathlib.Core.Bool.{cond}
 use mathlib.Core.List.{List, [], _++_}
 use lib.ListN.{length, take, drop}
 use lib.Dec.{ltb, eqb}
-use Rattle.answer.specs.Answer.{judged, whenDone}
-use Rattle.block.specs.Limits.{form1}
-use Rattle.block.specs.Read.{bytesFrom, bandsOf, rowsOf, headTests, gainsOf}
-use Rattle.table.specs.Told.{tableTold}
-use Rattle.lister_core.specs.Limits.{inputLimit}
+use Rattle.answer.specs.Limits.{tableLimit}
+use Rattle.block.specs.Form.{Form}
+use Rattle.block.specs.Read.{tableGainsBy}
+use Rattle.table.specs.Table.{tableToldBy}
+use Rattle.table.specs.Release.{release}
 use Rattle.lister_core.specs.Lines.{headLine, refusedLine, rowLine}
 
 -- the lines of rows 0 to n - 1, of B gains each
@@ -24,10 +24,10 @@ tableText B N gains = headLine B N ++ rowsText B gains N
 unfoldable pub answerText : ℕ × ℕ × ℕ × ℕ → List ℕ → List ℕ
 answerText t gains = cond (eqb (t .0) 0) (tableText (t .2) (t .3) gains) (refusedLine (t .0) (t .1))
 
--- for an input: 9 where it is too long, else the table in it or its refusal
-unfoldable pub listed : List ℕ → List ℕ
-listed s = cond (ltb inputLimit (length s)) (refusedLine 9 0) (answerText (tableTold form1 s) (gainsOf form1 s))
+-- for an input: 9 where it is longer than the cap, else the table of the form F in it, or its refusal
+unfoldable pub listedBy : Form → ℕ → List ℕ → List ℕ
+listedBy F cap s = cond (ltb cap (length s)) (refusedLine 9 0) (answerText (tableToldBy F s) (tableGainsBy F s))
 
--- how many gains are to be lent for the reading
-unfoldable pub gainsIn : List ℕ → ℕ
-gainsIn s = whenDone (judged (headTests form1 s)) (rowsOf (bytesFrom s 0) * bandsOf (bytesFrom s 0)) 0
+-- this release's form, and the bytes of its largest table
+abbrev pub listed : List ℕ → List ℕ
+listed s = listedBy release tableLimit s

@@ -5,24 +5,20 @@ ghost use mathlib.Core.List.{_++_};
 ghost use lib.ListN.{length};
 ghost use Rattle.digits.specs.Text.{decimalOf, Wrote};
 ghost use Rattle.lister_core.specs.Lines.{space, pairLine, headLine, refusedLine, rowLine};
-ghost use Rattle.lister_core.specs.Listed.{tableText, gainsIn, listed};
-ghost use Rattle.lister_core.specs.Limits.{gainLimit, textLimit};
+ghost use Rattle.answer.specs.Limits.{bandLimit, rowLimit, lineRoom, pairRoom, textLimit};
+ghost use Rattle.table.specs.Asked.{Known};
+ghost use Rattle.table.specs.Release.{tableGains};
+ghost use Rattle.lister_core.specs.Listed.{tableText, listed};
 use answer::Answer;
-use answer::is_done;
+use answer::limits::GAIN_LIMIT;
+use answer::limits::TABLE_LIMIT;
 use answer::number;
 use answer::place;
-use block::word::word_at;
 use digits::put_number;
 use digits::put_text;
 use table::TableAnswer;
-use table::judge::head;
-
-// The most bytes of an input that are listed, the most gains of a table, and room for the text of any table.
-pub const INPUT_LIMIT: usize = 35328;
-
-pub const GAIN_LIMIT: usize = 16384;
-
-pub const TEXT_LIMIT: usize = 109632;
+use table::judge::copy_gains;
+use table::shape_of;
 
 fn put_pair(word: &[u8], n: u64, between: &[u8], m: u64, at: usize, out: &mut [u8]) -> usize
     requires { ⌜ at + (length (now word) + length (now between) + 41) ≤ length (now out) ⌝ }
@@ -38,16 +34,16 @@ fn put_pair(word: &[u8], n: u64, between: &[u8], m: u64, at: usize, out: &mut [u
 
 // `bands B rows N`
 fn put_head(bands: u32, rows: u32, at: usize, out: &mut [u8]) -> usize
-    requires { ⌜ at + 64 ≤ length (now out) ⌝ }
+    requires { ⌜ at + pairRoom ≤ length (now out) ⌝ }
     ensures text { λ r. ⌜ Wrote (headLine bands rows) at (now (out .entry)) (now (out .exit)) r ⌝ }
-    ensures short { λ r. ⌜ r ≤ at + 64 ⌝ }
+    ensures short { λ r. ⌜ r ≤ at + pairRoom ⌝ }
 {
     put_pair(b"bands ", bands as u64, b" rows ", rows as u64, at, out)
 }
 
 // `refused NUMBER PLACE`
 pub fn put_refused(number: u8, place: usize, at: usize, out: &mut [u8]) -> usize
-    requires { ⌜ at + 64 ≤ length (now out) ⌝ }
+    requires { ⌜ at + pairRoom ≤ length (now out) ⌝ }
     ensures { λ r. ⌜ Wrote (refusedLine number place) at (now (out .entry)) (now (out .exit)) r ⌝ }
 {
     put_pair(b"refused ", number as u64, b" ", place as u64, at, out)
@@ -81,15 +77,15 @@ fn put_row(row: u32, gains: &[u16], at: usize, out: &mut [u8]) -> usize
 
 // The first line and the line of every row.
 fn put_table(bands: u32, rows: u32, gains: &[u16], out: &mut [u8]) -> usize
-    requires { ⌜ (bands ≤ 16) × (length (now gains) ≡ rows * bands) × (107 * rows + 64 ≤ length (now out)) ⌝ }
+    requires { ⌜ (bands ≤ bandLimit) × (length (now gains) ≡ rows * bands) × (lineRoom bandLimit * rows + pairRoom ≤ length (now out)) ⌝ }
     ensures { λ r. ⌜ Wrote (tableText bands rows (now (gains .entry))) 0 (now (out .entry)) (now (out .exit)) r ⌝ }
 {
-    let width = bands as usize;
+    let b = bands as usize;
     let mut next = put_head(bands, rows, 0, out);
     let mut row: u32 = 0;
     let mut at: usize = 0;
     while row < rows {
-        let end = at + width;
+        let end = at + b;
         next = put_row(row, &gains[at..end], next, out);
         at = end;
         row += 1;
@@ -97,27 +93,35 @@ fn put_table(bands: u32, rows: u32, gains: &[u16], out: &mut [u8]) -> usize
     next
 }
 
-// How many gains a reader lends for the table in these bytes; none where its first header is refused.
-pub fn gains_in(bytes: &[u8]) -> usize
-    ensures number { λ r. ⌜ r ≡ gainsIn (now (bytes .entry)) ⌝ }
-    ensures most { λ r. ⌜ r ≤ gainLimit ⌝ }
+// Copies the gains of a table that was judged, and puts its lines. The gains lent are for the work.
+fn put_copied(bytes: &[u8], bands: u32, rows: u32, gains: &mut [u16], out: &mut [u8]) -> usize
+    requires { ⌜ Known (now bytes) bands bands rows × (bands ≤ bandLimit) × (rows ≤ rowLimit) ⌝ }
+    requires { ⌜ (length (now gains) ≡ rows * bands) × (textLimit ≤ length (now out)) ⌝ }
+    ensures { λ r. ⌜ Wrote (tableText bands rows (tableGains (now (bytes .entry)))) 0 (now (out .entry)) (now (out .exit)) r ⌝ }
 {
-    if !is_done(head(bytes)) {
-        return 0;
-    }
-    word_at(bytes, 0, 6) * word_at(bytes, 0, 4)
+    copy_gains(bytes, bands as usize, gains);
+    put_table(bands, rows, gains, out)
 }
 
-// All that the lister writes for an input; gains is as many as gains_in says.
-pub fn list(bytes: &[u8], gains: &mut [u16], out: &mut [u8]) -> usize
-    requires { ⌜ (length (now gains) ≡ gainsIn (now bytes)) × (textLimit ≤ length (now out)) ⌝ }
+fn put_judged(bytes: &[u8], bands: u32, rows: u32, out: &mut [u8]) -> usize
+    requires { ⌜ Known (now bytes) bands bands rows × (bands ≤ bandLimit) × (rows ≤ rowLimit) × (textLimit ≤ length (now out)) ⌝ }
+    ensures { λ r. ⌜ Wrote (tableText bands rows (tableGains (now (bytes .entry)))) 0 (now (out .entry)) (now (out .exit)) r ⌝ }
+{
+    let n = (rows as usize) * (bands as usize);
+    let mut gains = [0u16; GAIN_LIMIT];
+    put_copied(bytes, bands, rows, &mut gains[..n], out)
+}
+
+// All that the lister writes for an input.
+pub fn list(bytes: &[u8], out: &mut [u8]) -> usize
+    requires { ⌜ textLimit ≤ length (now out) ⌝ }
     ensures { λ r. ⌜ Wrote (listed (now (bytes .entry))) 0 (now (out .entry)) (now (out .exit)) r ⌝ }
 {
-    if INPUT_LIMIT < bytes.len() {
+    if TABLE_LIMIT < bytes.len() {
         return put_refused(9, 0, 0, out);
     }
-    match table::read(bytes, gains) {
-        TableAnswer::Table(shape) => put_table(shape.bands, shape.rows, gains, out),
+    match shape_of(bytes) {
+        TableAnswer::Table(shape) => put_judged(bytes, shape.bands, shape.rows, out),
         TableAnswer::Refused(r) => {
             let a = Answer::Refused(r);
             put_refused(number(a), place(a), 0, out)

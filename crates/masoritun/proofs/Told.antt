@@ -6,8 +6,8 @@ use native.Mathlib.Omega.{arith}
 use Rattle.answer.specs.Answer.{placeOf, toldOf}
 use Rattle.answer.specs.declared.Answer.the-variants.{Refused as No}
 use Rattle.answer.specs.declared.Refusal.{Refusal}
-use Rattle.block.specs.Limits.{form1}
-use Rattle.table.specs.Told.{tableToldOf, blockToldOf, readTold, blockTold}
+use Rattle.table.specs.Table.{tableToldOf, blockToldOf}
+use Rattle.table.specs.Release.{release, readTold, blockTold}
 use Rattle.table.specs.declared.Shape.{Shape}
 use Rattle.table.specs.declared.Header.{Header}
 use Rattle.table.specs.declared.TableAnswer.{TableAnswer}
@@ -19,19 +19,19 @@ use Rattle.pack.specs.Packed.{packed, whenZero}
 use Rattle.pack.proofs.Packing.{old-left}
 
 -- a table
-module _ (s gains : List ℕ) (a : TableAnswer) (e : tableToldOf a ≡ readTold form1 s gains) where
+module _ (s gains : List ℕ) (a : TableAnswer) (e : tableToldOf a ≡ readTold s gains) where
   pub table-told : (x : Shape) (bands rows : ℕ) → a ≡ table.Table x
-      → (0 ≡ packed (readTold form1 s gains .0, readTold form1 s gains .1))
-      × ((x .bands ≡ whenZero (readTold form1 s gains .0) (readTold form1 s gains .2) bands)
-      × (x .rows ≡ whenZero (readTold form1 s gains .0) (readTold form1 s gains .3) rows))
+      → (0 ≡ packed (readTold s gains .0, readTold s gains .1))
+      × ((x .bands ≡ whenZero (readTold s gains .0) (readTold s gains .2) bands)
+      × (x .rows ≡ whenZero (readTold s gains .0) (readTold s gains .3) rows))
   table-told x bands rows n =
       let t = ap tableToldOf (sym n) ∙ e in
       (ap (λ z. packed (z .0, z .1)) t, (ap (λ z. whenZero (z .0) (z .2) bands) t, ap (λ z. whenZero (z .0) (z .3) rows) t))
 
   pub table-refused : (why : Refusal) (bands rows : ℕ) → a ≡ table.Refused why
-      → (packed (toldOf (No why)) ≡ packed (readTold form1 s gains .0, readTold form1 s gains .1))
-      × ((bands ≡ whenZero (readTold form1 s gains .0) (readTold form1 s gains .2) bands)
-      × (rows ≡ whenZero (readTold form1 s gains .0) (readTold form1 s gains .3) rows))
+      → (packed (toldOf (No why)) ≡ packed (readTold s gains .0, readTold s gains .1))
+      × ((bands ≡ whenZero (readTold s gains .0) (readTold s gains .2) bands)
+      × (rows ≡ whenZero (readTold s gains .0) (readTold s gains .3) rows))
   table-refused why bands rows n =
       let t = ap tableToldOf (sym n) ∙ e in (
         ap (λ z. packed (z .0, z .1)) t,
@@ -39,16 +39,16 @@ module _ (s gains : List ℕ) (a : TableAnswer) (e : tableToldOf a ≡ readTold 
       )
 
   pub table-fits : (why : Refusal) → a ≡ table.Refused why → placeOf (No why) < 2 ^ 56
-  table-fits why n = omega (arith, ap (λ z. z .1) (ap tableToldOf (sym n) ∙ e), read-told-place s gains)
+  table-fits why n = omega (arith, ap (λ z. z .1) (ap tableToldOf (sym n) ∙ e), read-told-place release s gains)
 
 -- one block
-module _ (number : ℕ) (N : number < 2 ^ 32) (s : List ℕ) (a : BlockAnswer) (e : blockToldOf a ≡ blockTold form1 number s) where
+module _ (number : ℕ) (N : number < 2 ^ 32) (s : List ℕ) (a : BlockAnswer) (e : blockToldOf a ≡ blockTold number s) where
   pub block-told : (x : Header) (form bands rows held : ℕ) → a ≡ block.Block x
-      → (0 ≡ packed (blockTold form1 number s .0, blockTold form1 number s .1))
-      × ((x .form ≡ whenZero (blockTold form1 number s .0) (blockTold form1 number s .2) form)
-      × ((x .bands ≡ whenZero (blockTold form1 number s .0) (blockTold form1 number s .4) bands)
-      × ((x .rows ≡ whenZero (blockTold form1 number s .0) (blockTold form1 number s .5) rows)
-      × (x .held ≡ whenZero (blockTold form1 number s .0) (blockTold form1 number s .6) held))))
+      → (0 ≡ packed (blockTold number s .0, blockTold number s .1))
+      × ((x .form ≡ whenZero (blockTold number s .0) (blockTold number s .2) form)
+      × ((x .bands ≡ whenZero (blockTold number s .0) (blockTold number s .4) bands)
+      × ((x .rows ≡ whenZero (blockTold number s .0) (blockTold number s .5) rows)
+      × (x .held ≡ whenZero (blockTold number s .0) (blockTold number s .6) held))))
   block-told x form bands rows held n =
       let t = ap blockToldOf (sym n) ∙ e in (
         ap (λ z. packed (z .0, z .1)) t,
@@ -59,11 +59,11 @@ module _ (number : ℕ) (N : number < 2 ^ 32) (s : List ℕ) (a : BlockAnswer) (
       )
 
   pub block-refused : (why : Refusal) (form bands rows held : ℕ) → a ≡ block.Refused why
-      → (packed (toldOf (No why)) ≡ packed (blockTold form1 number s .0, blockTold form1 number s .1))
-      × ((form ≡ whenZero (blockTold form1 number s .0) (blockTold form1 number s .2) form)
-      × ((bands ≡ whenZero (blockTold form1 number s .0) (blockTold form1 number s .4) bands)
-      × ((rows ≡ whenZero (blockTold form1 number s .0) (blockTold form1 number s .5) rows)
-      × (held ≡ whenZero (blockTold form1 number s .0) (blockTold form1 number s .6) held))))
+      → (packed (toldOf (No why)) ≡ packed (blockTold number s .0, blockTold number s .1))
+      × ((form ≡ whenZero (blockTold number s .0) (blockTold number s .2) form)
+      × ((bands ≡ whenZero (blockTold number s .0) (blockTold number s .4) bands)
+      × ((rows ≡ whenZero (blockTold number s .0) (blockTold number s .5) rows)
+      × (held ≡ whenZero (blockTold number s .0) (blockTold number s .6) held))))
   block-refused why form bands rows held n =
       let t = ap blockToldOf (sym n) ∙ e in (
         ap (λ z. packed (z .0, z .1)) t,
@@ -77,4 +77,4 @@ module _ (number : ℕ) (N : number < 2 ^ 32) (s : List ℕ) (a : BlockAnswer) (
       )
 
   pub block-fits : (why : Refusal) → a ≡ block.Refused why → placeOf (No why) < 2 ^ 56
-  block-fits why n = omega (arith, ap (λ z. z .1) (ap blockToldOf (sym n) ∙ e), block-told-place number s)
+  block-fits why n = omega (arith, ap (λ z. z .1) (ap blockToldOf (sym n) ∙ e), block-told-place release number s)

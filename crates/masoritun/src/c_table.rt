@@ -1,10 +1,7 @@
 // The stored table. On a refusal the lent bytes, gains and numbers stay.
 ghost use mathlib.Core.Path.{_≡_};
 ghost use Rattle.pack.specs.Packed.{packed, whenZero};
-ghost use Rattle.block.specs.Limits.{form1};
-ghost use Rattle.block.specs.Read.{readOut};
-ghost use Rattle.table.specs.Told.{readTold, blockTold};
-ghost use Rattle.block.specs.Write.{writeTold, writeOut};
+ghost use Rattle.table.specs.Release.{writeTold, writeOut, blockTold, readTold, readOut};
 use answer::Answer;
 use pack::pack;
 use table::BlockAnswer;
@@ -12,8 +9,8 @@ use table::TableAnswer;
 
 #[no_mangle]
 pub extern "C" fn mst_table_write(bands: u32, rows: u32, gains: &[u16], bytes: &mut [u8]) -> u64
-    ensures told { λ r. ⌜ r ≡ packed (writeTold form1 bands rows (now (gains .entry)) (now (bytes .entry))) ⌝ }
-    ensures written { λ r. ⌜ now (bytes .exit) ≡ writeOut form1 bands rows (now (gains .entry)) (now (bytes .entry)) ⌝ }
+    ensures told { λ r. ⌜ r ≡ packed (writeTold bands rows (now (gains .entry)) (now (bytes .entry))) ⌝ }
+    ensures written { λ r. ⌜ now (bytes .exit) ≡ writeOut bands rows (now (gains .entry)) (now (bytes .entry)) ⌝ }
 {
     pack(table::write(bands, rows, gains, bytes))
 }
@@ -26,14 +23,14 @@ pub extern "C" fn mst_table_read(
     rows: &mut u32,
 ) -> u64
     ensures told { λ r.
-        ⌜ r ≡ packed (readTold form1 (now (bytes .entry)) (now (gains .entry)) .0, readTold form1 (now (bytes .entry)) (now (gains .entry)) .1) ⌝ }
-    ensures written { λ r. ⌜ now (gains .exit) ≡ readOut form1 (now (bytes .entry)) (now (gains .entry)) ⌝ }
+        ⌜ r ≡ packed (readTold (now (bytes .entry)) (now (gains .entry)) .0, readTold (now (bytes .entry)) (now (gains .entry)) .1) ⌝ }
+    ensures written { λ r. ⌜ now (gains .exit) ≡ readOut (now (bytes .entry)) (now (gains .entry)) ⌝ }
     ensures bands { λ r.
         ⌜ now (bands .exit)
-        ≡ whenZero (readTold form1 (now (bytes .entry)) (now (gains .entry)) .0) (readTold form1 (now (bytes .entry)) (now (gains .entry)) .2) (now (bands .entry)) ⌝ }
+        ≡ whenZero (readTold (now (bytes .entry)) (now (gains .entry)) .0) (readTold (now (bytes .entry)) (now (gains .entry)) .2) (now (bands .entry)) ⌝ }
     ensures rows { λ r.
         ⌜ now (rows .exit)
-        ≡ whenZero (readTold form1 (now (bytes .entry)) (now (gains .entry)) .0) (readTold form1 (now (bytes .entry)) (now (gains .entry)) .3) (now (rows .entry)) ⌝ }
+        ≡ whenZero (readTold (now (bytes .entry)) (now (gains .entry)) .0) (readTold (now (bytes .entry)) (now (gains .entry)) .3) (now (rows .entry)) ⌝ }
 {
     let answer = table::read(bytes, gains);
     match answer {
@@ -55,15 +52,15 @@ pub extern "C" fn mst_table_read_block(
     rows: &mut u32,
     held: &mut u32,
 ) -> u64
-    ensures told { λ r. ⌜ r ≡ packed (blockTold form1 number (now (bytes .entry)) .0, blockTold form1 number (now (bytes .entry)) .1) ⌝ }
+    ensures told { λ r. ⌜ r ≡ packed (blockTold number (now (bytes .entry)) .0, blockTold number (now (bytes .entry)) .1) ⌝ }
     ensures form { λ r.
-        ⌜ now (form .exit) ≡ whenZero (blockTold form1 number (now (bytes .entry)) .0) (blockTold form1 number (now (bytes .entry)) .2) (now (form .entry)) ⌝ }
+        ⌜ now (form .exit) ≡ whenZero (blockTold number (now (bytes .entry)) .0) (blockTold number (now (bytes .entry)) .2) (now (form .entry)) ⌝ }
     ensures bands { λ r.
-        ⌜ now (bands .exit) ≡ whenZero (blockTold form1 number (now (bytes .entry)) .0) (blockTold form1 number (now (bytes .entry)) .4) (now (bands .entry)) ⌝ }
+        ⌜ now (bands .exit) ≡ whenZero (blockTold number (now (bytes .entry)) .0) (blockTold number (now (bytes .entry)) .4) (now (bands .entry)) ⌝ }
     ensures rows { λ r.
-        ⌜ now (rows .exit) ≡ whenZero (blockTold form1 number (now (bytes .entry)) .0) (blockTold form1 number (now (bytes .entry)) .5) (now (rows .entry)) ⌝ }
+        ⌜ now (rows .exit) ≡ whenZero (blockTold number (now (bytes .entry)) .0) (blockTold number (now (bytes .entry)) .5) (now (rows .entry)) ⌝ }
     ensures held { λ r.
-        ⌜ now (held .exit) ≡ whenZero (blockTold form1 number (now (bytes .entry)) .0) (blockTold form1 number (now (bytes .entry)) .6) (now (held .entry)) ⌝ }
+        ⌜ now (held .exit) ≡ whenZero (blockTold number (now (bytes .entry)) .0) (blockTold number (now (bytes .entry)) .6) (now (held .entry)) ⌝ }
 {
     let answer = table::read_block(number, bytes);
     match answer {

@@ -7,52 +7,56 @@ use native.Mathlib.Nat.{mod-lt, mul-assoc, mul-comm, add-mul, div-add-mod', mul-
 use native.Mathlib.Omega.{arith}
 use lib.ListN.{length}
 use Rattle.lists.proofs.Tab.{tab-length, tab-at}
-use Rattle.block.specs.Limits.{form1}
-use Rattle.block.specs.Block.{perBlock, blocks, held}
+use Rattle.block.specs.Form.{Form, Sound}
+use Rattle.block.specs.Block.{perBlock, blocks, held, given}
 use Rattle.block.specs.Write.{rowOk, gainOf}
-use Rattle.block.specs.Read.{bytesFrom, gainIn, gainAt, gainsOf}
+use Rattle.block.specs.Read.{bytesFrom, gainIn, gainAt, tableGainsBy}
 use Rattle.block.proofs.Sizes.{per-pos, lt-blocks, wide-pos}
 use Rattle.block.proofs.Totals.{row-same}
-use Rattle.block.proofs.Tests.{sizes-fit}
-use Rattle.table_facts.proofs.Readable.{Reads}
+use Rattle.block.proofs.Given.{given-same}
+use Rattle.table.proofs.Reading.{gains-are}
+use Rattle.table.proofs.Readable.{Reads, reads-known}
 use Rattle.table_facts.proofs.Block.{good-row}
 
 -- gain i of block k, in the list of all gains
-pub gain-in : (s : List ℕ) (B k i : ℕ) → 1 ≤ perBlock B * B → i < perBlock B * B
-    → gainAt B s (k * (perBlock B * B) + i) ≡ gainIn (bytesFrom s (512 * k)) i
+pub gain-in : (s : List ℕ) (W k i : ℕ) → 1 ≤ perBlock W * W → i < perBlock W * W
+    → gainAt W s (k * (perBlock W * W) + i) ≡ gainIn (bytesFrom s (512 * k)) i
 unfolding gainAt
-gain-in s B k i h l =
-    let d : (k * (perBlock B * B) + i) / (perBlock B * B) ≡ k = mul-add-div-right h k i ∙ ap (λ (x : ℕ). k + x) (div-eq-of-lt l) ∙ add-zero k in
-    let m : (k * (perBlock B * B) + i) % (perBlock B * B) ≡ i = mul-add-mod-self-right k (perBlock B * B) i ∙ mod-eq-of-lt l in
+gain-in s W k i h l =
+    let d : (k * (perBlock W * W) + i) / (perBlock W * W) ≡ k = mul-add-div-right h k i ∙ ap (λ (x : ℕ). k + x) (div-eq-of-lt l) ∙ add-zero k in
+    let m : (k * (perBlock W * W) + i) % (perBlock W * W) ≡ i = mul-add-mod-self-right k (perBlock W * W) i ∙ mod-eq-of-lt l in
     rw (d, m)
 
-module _ (s : List ℕ) (B N : ℕ) (r : Reads s B N) where
-  pub gains-long : length (gainsOf form1 s) ≡ N * B
-  unfolding gainsOf
-  gains-long = rw (r .bands, r .rows) (tab-length (gainAt B s) (N * B))
+module _ {F : Form} (S : Sound F) (s : List ℕ) (B N : ℕ) (r : Reads F s B N) where
+  abbrev W : ℕ
+  W = F .width B
 
-  pub gains-at : (i : ℕ) → i < N * B → gainOf (gainsOf form1 s) i ≡ gainAt B s i
-  unfolding gainsOf
-  gains-at i l = rw (r .bands, r .rows) (tab-at (gainAt B s) (N * B) i 0 l)
+  pub gains-at : (i : ℕ) → i < N * B → gainOf (tableGainsBy F s) i ≡ given (F .parts) W B (gainAt W s) i
+  gains-at i l =
+      ap (λ (g : List ℕ). gainOf g i) (sym (gains-are F s B N (sym (r .bands)) (sym (r .rows))))
+      ∙ tab-at (given (F .parts) W B (gainAt W s)) (N * B) i 0 l
 
-  pub rows-add : (R : ℕ) → R < N → rowOk (form1 .parts) (gainOf (gainsOf form1 s)) B R ≡ true
+  pub rows-add : (R : ℕ) → R < N → rowOk (F .parts) (gainOf (tableGainsBy F s)) B R ≡ true
   unfolding held
   rows-add R l =
-      let fit = sizes-fit B N (r .size) in
-      let pos : 1 ≤ perBlock B = per-pos B (fit .some) (fit .most) in
-      let k : ℕ = R / perBlock B in
-      let q : ℕ = R % perBlock B in
-      let d : k * perBlock B + q ≡ R = div-add-mod' R (perBlock B) in
-      let ql : q < perBlock B = mod-lt R pos in
-      let c : perBlock B * k ≡ k * perBlock B = mul-comm (perBlock B) k in
-      let kb : k < blocks B N = lt-blocks B N k pos (omega arith) in
-      let e : R * B ≡ k * (perBlock B * B) + q * B =
-      ap (λ (x : ℕ). x * B) (sym d) ∙ add-mul (k * perBlock B) q B ∙ ap (λ (x : ℕ). x + q * B) (mul-assoc k (perBlock B) B) in
-      let u : suc q * B ≤ perBlock B * B = mul-le-mul-right B ql in
+      let fit = reads-known S r .fits in
+      let P : ℕ = perBlock W in
+      let pos : 1 ≤ P = per-pos W (fit .some) (fit .most) in
+      let k : ℕ = R / P in
+      let q : ℕ = R % P in
+      let d : k * P + q ≡ R = div-add-mod' R P in
+      let ql : q < P = mod-lt R pos in
+      let c : P * k ≡ k * P = mul-comm P k in
+      let kb : k < blocks W N = lt-blocks W N k pos (omega arith) in
+      let e : R * W ≡ k * (P * W) + q * W =
+      ap (λ (x : ℕ). x * W) (sym d) ∙ add-mul (k * P) q W ∙ ap (λ (x : ℕ). x + q * W) (mul-assoc k P W) in
+      let u : suc q * W ≤ P * W = mul-le-mul-right W ql in
       let v : suc R * B ≤ N * B = mul-le-mul-right B l in
-      row-same (form1 .parts) (gainOf (gainsOf form1 s)) (gainIn (bytesFrom s (512 * k))) B R q
+      row-same (F .parts) (gainOf (tableGainsBy F s)) (given (F .parts) W B (gainIn (bytesFrom s (512 * k)))) B R q
       (λ j m.
-      let y : R * B + j ≡ k * (perBlock B * B) + (q * B + j) = omega arith in
-      sym (gains-at (R * B + j) (omega (arith, suc-mul R B)) ∙ ap (gainAt B s) y
-      ∙ gain-in s B k (q * B + j) (wide-pos B (fit .some) (fit .most)) (omega (arith, suc-mul q B))))
+      sym (gains-at (R * B + j) (omega (arith, suc-mul R B))
+      ∙ given-same (F .parts) W B (gainAt W s) (gainIn (bytesFrom s (512 * k))) R q
+      (λ x y.
+      let z : R * W + x ≡ k * (P * W) + (q * W + x) = omega arith in
+      ap (gainAt W s) z ∙ gain-in s W k (q * W + x) (wide-pos W (fit .some) (fit .most)) (omega (arith, suc-mul q W))) j m))
       ∙ good-row B N (bytesFrom s (512 * k)) k (r .each k kb) q (omega arith)

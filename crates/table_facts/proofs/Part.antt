@@ -8,13 +8,14 @@ use lib.ListN.{length, getD, take, drop, length-take, length-drop}
 use lib.Seq.{getD-take, getD-drop}
 use lib.Dec.{leb, eqb}
 use Rattle.lists.proofs.First.{first-same}
-use Rattle.block.specs.Limits.{form1}
-use Rattle.block.specs.Block.{held}
+use Rattle.block.specs.Form.{Form}
+use Rattle.block.specs.Block.{held, given}
 use Rattle.block.specs.Write.{rowOk, badRow}
-use Rattle.block.specs.Read.{bytesFrom, wordAt, gainIn, checksOk, headOk, blank, rowTests, blockTests}
+use Rattle.block.specs.Read.{bytesFrom, wordAt, gainIn, checksOk, headOkBy, blank, rowTestsBy, blockTestsBy}
 use Rattle.block.proofs.Sizes.{held-small}
 use Rattle.block.proofs.Bytes.{checkA-same, checkB-same}
 use Rattle.block.proofs.Totals.{row-same}
+use Rattle.block.proofs.Given.{given-same}
 
 -- the 512 bytes of block k
 abbrev pub blockOf : List ℕ → ℕ → List ℕ
@@ -42,21 +43,22 @@ module _ (f g : ℕ → ℕ) (same : (i : ℕ) → i < 512 → f i ≡ g i) wher
       )
       refl
 
-  head-same : (k : ℕ) → headOk form1 f k ≡ headOk form1 g k
-  unfolding headOk
-  head-same k = rw (word-same 0 (omega arith), word-same 2 (omega arith), word-same 4 (omega arith), word-same 6 (omega arith)) refl
+  head-same : (F : Form) (k : ℕ) → headOkBy F f k ≡ headOkBy F g k
+  unfolding headOkBy
+  head-same F k = rw (word-same 0 (omega arith), word-same 2 (omega arith), word-same 4 (omega arith), word-same 6 (omega arith)) refl
 
   gain-same : (i : ℕ) → i < 250 → gainIn f i ≡ gainIn g i
   unfolding gainIn
   gain-same i l = word-same (8 + 2 * i) (omega arith)
 
-  bad-same : (parts B n : ℕ) → n * B ≤ 250 → badRow parts (gainIn f) B n ≡ badRow parts (gainIn g) B n
+  bad-same : (parts W B n : ℕ) → n * W ≤ 250 → badRow parts (given parts W B (gainIn f)) B n ≡ badRow parts (given parts W B (gainIn g)) B n
   unfolding badRow
-  bad-same parts B n h =
-      first-same (rowOk parts (gainIn f) B) (rowOk parts (gainIn g) B) n
+  bad-same parts W B n h =
+      first-same (rowOk parts (given parts W B (gainIn f)) B) (rowOk parts (given parts W B (gainIn g)) B) n
       (λ r l.
-      let m : suc r * B ≤ n * B = mul-le-mul-right B l in
-      row-same parts (gainIn f) (gainIn g) B r r (λ j k. sym (gain-same (r * B + j) (omega (arith, suc-mul r B)))))
+      let m : suc r * W ≤ n * W = mul-le-mul-right W l in
+      row-same parts (given parts W B (gainIn f)) (given parts W B (gainIn g)) B r r
+      (λ j k. sym (given-same parts W B (gainIn f) (gainIn g) r r (λ x y. gain-same (r * W + x) (omega (arith, suc-mul r W))) j k)))
 
   blank-same : (from : ℕ) → blank f from ≡ blank g from
   unfolding blank
@@ -64,15 +66,16 @@ module _ (f g : ℕ → ℕ) (same : (i : ℕ) → i < 512 → f i ≡ g i) wher
       ap (leb (508 - from))
       (first-same (λ i. eqb (f (from + i)) 0) (λ i. eqb (g (from + i)) 0) (508 - from) (λ i l. ap (λ (x : ℕ). eqb x 0) (same (from + i) (omega arith))))
 
-  pub tests-same : (B N k : ℕ) → blockTests form1 B N f k ≡ blockTests form1 B N g k
-  unfolding blockTests rowTests
-  tests-same B N k =
+  pub tests-same : (F : Form) (B N k : ℕ) → blockTestsBy F B N f k ≡ blockTestsBy F B N g k
+  unfolding blockTestsBy rowTestsBy
+  tests-same F B N k =
+      let W = F .width B in
       rw (
         checks-same,
-        head-same k,
+        head-same F k,
         word-same 4 (omega arith),
         word-same 6 (omega arith),
-        bad-same (form1 .parts) B (held B N k) (held-small B N k),
-        blank-same (8 + 2 * (held B N k * B)),
+        bad-same (F .parts) W B (held W N k) (held-small W N k),
+        blank-same (8 + 2 * (held W N k * W)),
       )
       refl

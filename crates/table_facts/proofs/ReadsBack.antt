@@ -11,49 +11,49 @@ use Rattle.answer.specs.Answer.{whenDone}
 use Rattle.answer.specs.declared.Answer.the-variants.{Done}
 use Rattle.answer.proofs.Numbers.{zero-done}
 use Rattle.answer.proofs.Chain.{opened}
-use Rattle.block.specs.Limits.{form1}
+use Rattle.block.specs.Form.{Form, Sound}
 use Rattle.block.specs.Block.{tableBytes}
-use Rattle.block.specs.Write.{sizeOk, rowOk, badRow, gainOf, writeAnswer, writeTold, writeOut}
-use Rattle.block.specs.Read.{readOut}
-use Rattle.table.specs.Told.{readTold}
-use Rattle.table_facts.proofs.Readable.{told-read, read-out}
+use Rattle.block.specs.Write.{shapeOkBy, rowOk, badRow, gainOf, writeAnswerBy, writeToldBy, writeOutBy}
+use Rattle.block.specs.Read.{readOutBy}
+use Rattle.table.specs.Table.{readToldBy}
+use Rattle.table.proofs.Readable.{told-read, read-out}
 use Rattle.table_facts.proofs.Written.{some-block, table-reads, gains-back}
 
-abbrev pub ReadsBack : Type 0
-ReadsBack =
+abbrev pub ReadsBack : Form → Type 0
+ReadsBack F =
     (B N : ℕ) (gains bytes lent : List ℕ)
-    → writeTold form1 B N gains bytes ≡ (0, 0)
+    → writeToldBy F B N gains bytes ≡ (0, 0)
     → length lent ≡ length gains
-    → (readTold form1 (writeOut form1 B N gains bytes) lent ≡ (0, 0, B, N)) × (readOut form1 (writeOut form1 B N gains bytes) lent ≡ gains)
+    → (readToldBy F (writeOutBy F B N gains bytes) lent ≡ (0, 0, B, N)) × (readOutBy F (writeOutBy F B N gains bytes) lent ≡ gains)
 
 -- a write that is done passed its tests
-record Passed (B N : ℕ) (gains : List ℕ) : Type 0 where
-  size : sizeOk form1 B N ≡ true
+record Passed (F : Form) (B N : ℕ) (gains : List ℕ) : Type 0 where
+  shape : shapeOkBy F B N ≡ true
   long : length gains ≡ N * B
-  adds : (R : ℕ) → R < N → rowOk (form1 .parts) (gainOf gains) B R ≡ true
+  adds : (R : ℕ) → R < N → rowOk (F .parts) (gainOf gains) B R ≡ true
 
-passed : (B N : ℕ) (gains : List ℕ) (room : ℕ) → Done ≡ writeAnswer form1 B N gains room → Passed B N gains
-unfolding writeAnswer badRow
-passed B N gains room d =
+passed : {F : Form} (B N : ℕ) (gains : List ℕ) (room : ℕ) → Done ≡ writeAnswerBy F B N gains room → Passed F B N gains
+unfolding writeAnswerBy badRow
+passed {F} B N gains room d =
     let a = opened _ _ _ d in
     let b = opened _ _ _ (a .1) in
     let c = opened _ _ _ (b .1) in
     let e = opened _ _ _ (c .1) in
     record {
-      size = not-false _ (a .0);
+      shape = not-false _ (a .0);
       long = eqb-true _ _ (not-false _ (b .0));
-      adds = first-clear (rowOk (form1 .parts) (gainOf gains) B) N (ltb-false _ _ (e .0));
+      adds = first-clear (rowOk (F .parts) (gainOf gains) B) N (ltb-false _ _ (e .0));
     }
 
-pub reads-back : ReadsBack
-reads-back B N gains bytes lent t l =
-    let d : Done ≡ writeAnswer form1 B N gains (length bytes) = sym (zero-done (writeAnswer form1 B N gains (length bytes)) (ap (λ x. x .0) t)) in
+pub reads-back : (F : Form) → Sound F → ReadsBack F
+reads-back F S B N gains bytes lent t l =
+    let d : Done ≡ writeAnswerBy F B N gains (length bytes) = sym (zero-done (writeAnswerBy F B N gains (length bytes)) (ap (λ x. x .0) t)) in
     let p = passed B N gains (length bytes) d in
-    let T : List ℕ = tableBytes 1 B B N gains in
-    let w : T ≡ writeOut form1 B N gains bytes = ap (λ a. whenDone a T bytes) d in
-    let r : readTold form1 T lent ≡ (0, 0, B, N) =
-    told-read T B N (table-reads B N gains (p .size) (p .adds)) (some-block B N gains (p .size) (p .adds)) lent (l ∙ p .long) in
-    let g : readOut form1 T lent ≡ gains = read-out T lent B N r ∙ gains-back B N gains (p .size) (p .adds) (p .long) in (
-      subst (λ (s : List ℕ). readTold form1 s lent ≡ (0, 0, B, N)) w r,
-      subst (λ (s : List ℕ). readOut form1 s lent ≡ gains) w g,
+    let T : List ℕ = tableBytes (F .code) (F .width B) B N gains in
+    let w : T ≡ writeOutBy F B N gains bytes = ap (λ a. whenDone a T bytes) d in
+    let r : readToldBy F T lent ≡ (0, 0, B, N) =
+    told-read T B N (table-reads F S B N gains (p .shape) (p .adds)) (some-block F S B N gains (p .shape) (p .adds)) lent (l ∙ p .long) in
+    let g : readOutBy F T lent ≡ gains = read-out F T lent B N r ∙ gains-back F S B N gains (p .shape) (p .adds) (p .long) in (
+      subst (λ (s : List ℕ). readToldBy F s lent ≡ (0, 0, B, N)) w r,
+      subst (λ (s : List ℕ). readOutBy F s lent ≡ gains) w g,
     )

@@ -2,12 +2,12 @@
 -- Assumes nothing.
 use Prim.Native.Nat.{ℕ, zero, suc, _+_, _*_, _≤_, _<_}
 use mathlib.Core.Path.{_≡_, refl, sym, ap, ap₂, _∙_, subst}
-use mathlib.Core.Bool.{true, not, _&&_}
+use mathlib.Core.Bool.{true, not}
 use mathlib.Core.Logic.{⊎-elim}
 use mathlib.Core.List.{List}
 use native.Mathlib.Nat.{le-trans, eq-or-lt-of-le, le-of-suc-le-suc, mul-le-mul-right, suc-mul}
 use native.Mathlib.Omega.{arith}
-use borrow.Author.Tests.{eq-eqb, le-leb}
+use borrow.Author.Tests.{eq-eqb}
 use lib.Dec.{T, lit≤}
 use lib.Ieee.{nan, binary32, fits}
 use lib.Ieee.Bits.{ofBits-fits}
@@ -27,10 +27,10 @@ use Rattle.split.specs.Split.{levelSteps, splitAnswer}
 use Rattle.split.proofs.Passed.{lastTests, done-input}
 use Rattle.split.proofs.Positive.{level-steps-length, steps-total}
 use Rattle.parts.proofs.Nearest.{gains-length, gains-total}
-use Rattle.block.specs.Limits.{form1}
-use Rattle.block.specs.Write.{rowOk, badRow, gainOf, writeAnswer}
+use Rattle.block.specs.Write.{rowOk, badRow, gainOf, writeAnswerBy}
+use Rattle.block.proofs.Tests.{Within, shape-ok}
+use Rattle.table.specs.Release.{release, tableLength, writeAnswer}
 use Rattle.tabulate_core.specs.Rows.{levelAt, rowLevels, rowAnswer, rowGains, gainsTo}
-use Rattle.tabulate_core.specs.Tabulated.{sizeOf}
 use Rattle.tabulate_core.specs.Asked.{Shaped}
 use Rattle.tabulate_core.proofs.Rows.{AllDone}
 
@@ -60,7 +60,7 @@ module _ {B N : ℕ} {s : List ℕ} (p : Shaped B N s) (d : AllDone B s N) where
       gains-length parts (levelSteps (rowLevels B s r)) (row-some r h) ∙ level-steps-length (rowLevels B s r)
       ∙ tab-length (λ j. levelAt s (r * B + j)) B
 
-  row-total : (r : ℕ) → r < N → total (rowGains B s r) ≡ 32768
+  row-total : (r : ℕ) → r < N → total (rowGains B s r) ≡ parts
   unfolding rowGains
   row-total r h = gains-total parts (levelSteps (rowLevels B s r)) (row-some r h)
 
@@ -86,7 +86,7 @@ module _ {B N : ℕ} {s : List ℕ} (p : Shaped B N s) (d : AllDone B s N) where
       (eq-or-lt-of-le (le-of-suc-le-suc h))
 
   -- every row adds up
-  adds-up : (r : ℕ) → r < N → rowOk 32768 (gainOf (gainsTo B s N)) B r ≡ true
+  adds-up : (r : ℕ) → r < N → rowOk parts (gainOf (gainsTo B s N)) B r ≡ true
   unfolding rowOk total
   adds-up r h =
       eq-eqb _ _
@@ -94,12 +94,12 @@ module _ {B N : ℕ} {s : List ℕ} (p : Shaped B N s) (d : AllDone B s N) where
       ∙ ap (sumTo (at (rowGains B s r))) (sym (row-length r h)) ∙ row-total r h)
 
   -- so the table is written
-  pub writes : Done ≡ writeAnswer form1 B N (gainsTo B s N) (sizeOf B N)
-  unfolding writeAnswer badRow
+  pub writes : Done ≡ writeAnswer B N (gainsTo B s N) (tableLength B N)
+  unfolding writeAnswerBy badRow
   writes =
+      let z : Within release B N = record { some = p .some; most = p .most; rows = p .first; last = p .last } in
       gives
-      (skip
-      (ap not (ap₂ _&&_ (le-leb 1 B (p .some)) (ap₂ _&&_ (le-leb B (form1 .bandLimit) (p .most)) (ap₂ _&&_ (le-leb 1 N (p .first)) (le-leb N (form1 .rowLimit) (p .last))))))
+      (skip (ap not (shape-ok z))
       (skip (ap not (eq-eqb (length (gainsTo B s N)) (N * B) (all-length N (omega arith))))
-      (skip (ap not (eq-eqb (sizeOf B N) (sizeOf B N) refl))
-      (found-none N (first-end (rowOk 32768 (gainOf (gainsTo B s N)) B) N N (omega arith) (omega arith) adds-up) (omega arith) clear))))
+      (skip (ap not (eq-eqb (tableLength B N) (tableLength B N) refl))
+      (found-none N (first-end (rowOk parts (gainOf (gainsTo B s N)) B) N N (omega arith) (omega arith) adds-up) (omega arith) clear))))

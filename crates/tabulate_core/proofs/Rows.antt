@@ -3,7 +3,7 @@ use Prim.Native.Nat.{ℕ, suc, _+_, _-_, _*_, _≤_, _<_}
 use mathlib.Core.Path.{_≡_, refl, sym, ap, ap₂, _∙_}
 use mathlib.Core.Bool.{true, false, cond, true≢false}
 use mathlib.Core.List.{List, _++_, append-assoc}
-use native.Mathlib.Nat.{mul-le-mul, mul-le-mul-right, suc-mul}
+use native.Mathlib.Nat.{mul-le-mul-right, suc-mul}
 use native.Mathlib.Numerals.{add-one}
 use native.Mathlib.Omega.{arith}
 use borrow.Author.Count.{below-none, below-more}
@@ -20,7 +20,6 @@ use Rattle.answer.proofs.Numbers.{told-one, zero-done}
 use Rattle.lists.proofs.First.{Passed, first-at, first-end}
 use Rattle.split.specs.Split.{gainsOf, levelSteps, splitAnswer, splitTold, splitOut}
 use Rattle.split.proofs.Place.{split-place}
-use Rattle.block.specs.Limits.{form1}
 use Rattle.tabulate_core.specs.Rows.{levelsFrom, rowLevels, rowAnswer, rowGains, gainsTo, refusedRow, rowTold, stopOf}
 use Rattle.tabulate_core.specs.Asked.{Row}
 
@@ -89,10 +88,6 @@ pub record Going (B N : ℕ) (s g : List ℕ) (row at : ℕ) : Type 0 where
 pub going-none : (B N : ℕ) (s g : List ℕ) → length g ≡ N * B → Going B N s g 0 0
 unfolding gainsTo
 going-none B N s g l = record { within = omega arith; from = omega arith; long = l; done = below-none _; held = refl }
-
--- the gains are few
-pub few-gains : {B N : ℕ} → N ≤ form1 .rowLimit → B ≤ form1 .bandLimit → N * B ≤ 16384
-few-gains n b = mul-le-mul {n₂ = form1 .rowLimit} {m₂ = form1 .bandLimit} n b
 
 module _ {B N : ℕ} {s g : List ℕ} {row at : ℕ} (p : Going B N s g row at) (h : row < N) where
   pub going-inside : at + B ≤ N * B

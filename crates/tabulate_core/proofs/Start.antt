@@ -10,30 +10,30 @@ use lib.ListN.{length, take}
 use lib.Seq.{length-take-le, take-all}
 use Rattle.answer.specs.declared.Refusal.the-variants.{Count}
 use Rattle.answer.proofs.Chain.{stop}
-use Rattle.block.specs.Limits.{form1}
-use Rattle.block.specs.Write.{sizeOk}
-use Rattle.block.proofs.Tests.{size-is}
+use Rattle.answer.specs.Limits.{bandLimit, rowLimit, levelLimit}
+use Rattle.table.specs.Release.{release, shapeOk}
+use Rattle.block.proofs.Tests.{Within, shape-is}
 use Rattle.tabulate_core.specs.Argument.{bandsIn}
 use Rattle.tabulate_core.specs.Tabulated.{rowsIn, tabulateTold, tabulateOut}
 use Rattle.tabulate_core.proofs.Told.{tells-refused}
 
--- so many bytes are more than 1,024 rows of 1 to 16 bands
-many-rows : (B n : ℕ) → 1 ≤ B → B ≤ form1 .bandLimit → 65537 ≤ n → form1 .rowLimit < rowsIn B n
+-- so many bytes are more than the most rows of the most bands
+many-rows : (B n : ℕ) → 1 ≤ B → B ≤ bandLimit → levelLimit ≤ n → rowLimit < rowsIn B n
 unfolding rowsIn
-many-rows B n some most h = le-div-iff-mul-le {k = 4 * B} {x = 1025} {y = n + (4 * B - 1)} (omega arith) .1 (omega arith)
+many-rows B n some most h = le-div-iff-mul-le {k = 4 * B} {x = rowLimit + 1} {y = n + (4 * B - 1)} (omega arith) .1 (omega arith)
 
-too-many : (B n : ℕ) → 65537 ≤ n → not (sizeOk form1 B (rowsIn B n)) ≡ true
-too-many B n h = go (sizeOk form1 B (rowsIn B n)) refl
+too-many : (B n : ℕ) → levelLimit ≤ n → not (shapeOk B (rowsIn B n)) ≡ true
+too-many B n h = go (shapeOk B (rowsIn B n)) refl
   where
-    go : (b : Bool) → b ≡ sizeOk form1 B (rowsIn B n) → not b ≡ true
+    go : (b : Bool) → b ≡ shapeOk B (rowsIn B n) → not b ≡ true
     go false e = refl
-    go true e = let z = size-is form1 B (rowsIn B n) (sym e) in absurd (omega (arith, many-rows B n (z .some) (z .most) h, z .last))
+    go true e = let z : Within release B (rowsIn B n) = shape-is B (rowsIn B n) (sym e) in absurd (omega (arith, many-rows B n (z .some) (z .most) h, z .last))
 
-long-refused : (w s bytes : List ℕ) → 65537 ≤ length s
+long-refused : (w s bytes : List ℕ) → levelLimit ≤ length s
     → (_≡_ {A = ℕ × ℕ × ℕ} (7, 0, 0) (tabulateTold w s (length bytes))) × (bytes ≡ tabulateOut w s bytes)
 long-refused w s bytes h = tells-refused w s refl refl bytes Count (stop (too-many (bandsIn w) (length s) h)) refl
 
-pub start-decides : (w s bytes : List ℕ) (k : ℕ) → 65537 ≤ k
+pub start-decides : (w s bytes : List ℕ) (k : ℕ) → levelLimit ≤ k
     → (tabulateTold w (take k s) (length bytes) ≡ tabulateTold w s (length bytes)) × (tabulateOut w (take k s) bytes ≡ tabulateOut w s bytes)
 start-decides w s bytes k h = elim (decLt k (length s)) [
   | yes l ↦

@@ -11,11 +11,9 @@ use lib.ListN.{length}
 use Rattle.lists.specs.Index.{firstNot}
 use Rattle.lists.proofs.First.{first-fails, first-clear}
 use Rattle.answer.specs.Answer.{isDone, whenDone}
-use Rattle.block.specs.Limits.{form1}
-use Rattle.block.specs.Block.{tableBytes}
-use Rattle.block.specs.Write.{writeAnswer, writeOut}
+use Rattle.table.specs.Release.{tableLength, tableOf, writeAnswer, writeOut}
 use Rattle.tabulate_core.specs.Rows.{rowAnswer, gainsTo, refusedRow, rowTold, stopOf}
-use Rattle.tabulate_core.specs.Tabulated.{sizeOf, storedTold, storedOut}
+use Rattle.tabulate_core.specs.Tabulated.{storedTold, storedOut}
 use Rattle.tabulate_core.specs.Asked.{Shaped, Split}
 use Rattle.tabulate_core.specs.declared.Stop.{Stop}
 use Rattle.tabulate_core.proofs.Rows.{AllDone, not-zero}
@@ -42,19 +40,19 @@ module _ {B N : ℕ} {s : List ℕ} {stop : Stop} {gains : List ℕ} (w : Split 
   unfolding storedTold storedOut
   store-refused bytes n =
       let f : eqb (stopOf B s N .0) 0 ≡ false = ne-eqb (stopOf B s N .0) 0 (λ z. n (number-is ∙ z)) in (
-        ap (λ t. (t .0, t .1, 0)) (w .told) ∙ ap (λ b. cond b (0, 0, sizeOf B N) (stopOf B s N .0, stopOf B s N .1, 0)) (sym f),
-        ap (λ b. cond b (tableBytes 1 B B N (gainsTo B s N)) bytes) (sym f),
+        ap (λ t. (t .0, t .1, 0)) (w .told) ∙ ap (λ b. cond b (0, 0, tableLength B N) (stopOf B s N .0, stopOf B s N .1, 0)) (sym f),
+        ap (λ b. cond b (tableOf B N (gainsTo B s N)) bytes) (sym f),
       )
 
   -- none was, and the table is written
-  pub store-done : (bytes left : List ℕ) {n : ℕ} → Shaped B N s → stop .number ≡ 0 → length bytes ≡ sizeOf B N → n ≡ sizeOf B N
-      → left ≡ writeOut form1 B N gains bytes → ((0, 0, n) ≡ storedTold B N s) × (left ≡ storedOut B N s bytes)
+  pub store-done : (bytes left : List ℕ) {n : ℕ} → Shaped B N s → stop .number ≡ 0 → length bytes ≡ tableLength B N → n ≡ tableLength B N
+      → left ≡ writeOut B N gains bytes → ((0, 0, n) ≡ storedTold B N s) × (left ≡ storedOut B N s bytes)
   unfolding storedTold storedOut
   store-done bytes left p z l m e =
       let d = sym number-is ∙ z in
       let t : eqb (stopOf B s N .0) 0 ≡ true = eq-eqb (stopOf B s N .0) 0 d in
-      let whole : List ℕ → ℕ → List ℕ = λ g room. whenDone (writeAnswer form1 B N g room) (tableBytes 1 B B N g) bytes in (
-        ap (λ (k : ℕ). (0, 0, k)) m ∙ ap (λ b. cond b (0, 0, sizeOf B N) (stopOf B s N .0, stopOf B s N .1, 0)) (sym t),
-        e ∙ ap₂ whole (w .all z) l ∙ ap (λ a. whenDone a (tableBytes 1 B B N (gainsTo B s N)) bytes) (sym (writes p (stop-none B s N d)))
-            ∙ ap (λ b. cond b (tableBytes 1 B B N (gainsTo B s N)) bytes) (sym t),
+      let whole : List ℕ → ℕ → List ℕ = λ g room. whenDone (writeAnswer B N g room) (tableOf B N g) bytes in (
+        ap (λ (k : ℕ). (0, 0, k)) m ∙ ap (λ b. cond b (0, 0, tableLength B N) (stopOf B s N .0, stopOf B s N .1, 0)) (sym t),
+        e ∙ ap₂ whole (w .all z) l ∙ ap (λ a. whenDone a (tableOf B N (gainsTo B s N)) bytes) (sym (writes p (stop-none B s N d)))
+            ∙ ap (λ b. cond b (tableOf B N (gainsTo B s N)) bytes) (sym t),
       )

@@ -6,7 +6,7 @@ use lib.ListN.{length}
 use Rattle.answer.specs.Answer.{toldOf}
 use Rattle.answer.specs.declared.Answer.{Answer}
 use Rattle.split.specs.Split.{splitTold, splitOut}
-use Rattle.block.specs.Limits.{form1}
+use Rattle.answer.specs.Limits.{bandLimit, rowLimit}
 use Rattle.tabulate_core.specs.Rows.{levelsFrom, gainsTo, stopOf}
 use Rattle.tabulate_core.specs.declared.Stop.{Stop}
 
@@ -18,9 +18,9 @@ pub record Row (s : List ℕ) (from : ℕ) (gains : List ℕ) (answer : Answer) 
 -- N rows of B levels, within their limits
 pub record Shaped (B N : ℕ) (s : List ℕ) : Type 0 where
   pub some : 1 ≤ B
-  pub most : B ≤ form1 .bandLimit
+  pub most : B ≤ bandLimit
   pub first : 1 ≤ N
-  pub last : N ≤ form1 .rowLimit
+  pub last : N ≤ rowLimit
   pub long : length s ≡ 4 * (N * B)
 
 -- the rows were split up to the first refusal, into these gains where there is none

@@ -6,16 +6,19 @@ ghost use Rattle.answer.specs.Limits.{bandLimit};
 ghost use Rattle.tabulate_core.specs.Argument.{bandsIn};
 ghost use Rattle.tabulate_core.specs.Rows.{patternOf, levelAt, levelsFrom};
 ghost use Rattle.tabulate_core.specs.Asked.{Row, Shaped, Split};
-ghost use Rattle.tabulate_core.specs.Tabulated.{sizeOf, tabulatedOf, storedTold, storedOut, tabulateTold, tabulateOut};
+ghost use Rattle.table.specs.Release.{tableLength};
+ghost use Rattle.tabulate_core.specs.Tabulated.{tabulatedOf, storedTold, storedOut, tabulateTold, tabulateOut};
 use answer::Answer;
 use answer::is_done;
+use answer::limits::BAND_LIMIT;
+use answer::limits::GAIN_LIMIT;
 use answer::number;
 use answer::place;
 use block::counts::blocks_of;
-use block::counts::size_ok;
+use block::counts::shape_ok;
 use floats::bits::from_pattern;
-use split::BAND_LIMIT;
 use split::split;
+use table::LEAST;
 
 // Document 01's number and place, and the bytes of the table, 0 where refused.
 pub struct Tabulated {
@@ -36,7 +39,7 @@ fn wide(x: u8) -> usize
     x as usize
 }
 
-// The bands that a word names: decimal digits only, 1 to 16. 0 for any other word.
+// The bands that a word names: decimal digits only, no more than the most. 0 for any other word.
 fn bands_in(word: &[u8]) -> usize
     ensures bands { λ r. ⌜ r ≡ bandsIn (now (word .entry)) ⌝ }
     ensures most { λ r. ⌜ r ≤ bandLimit ⌝ }
@@ -101,7 +104,7 @@ fn split_row(input: &[u8], from: usize, gains: &mut [u16]) -> Answer
     ensures { λ r. ⌜ Row (now (input .entry)) from (now (gains .entry)) r (now (gains .exit)) ⌝ }
 {
     let n = gains.len();
-    let mut levels = [0.0f32; 16];
+    let mut levels = [0.0f32; BAND_LIMIT];
     split_from(input, from, &mut levels[..n], gains)
 }
 
@@ -134,7 +137,7 @@ fn split_rows(bands: usize, rows: usize, input: &[u8], gains: &mut [u16]) -> Sto
 // Splits all rows, then writes their table over the lent bytes. The gains lent are for the work.
 fn store(bands: usize, rows: usize, input: &[u8], gains: &mut [u16], bytes: &mut [u8]) -> Tabulated
     requires { ⌜ Shaped bands rows (now input) ⌝ }
-    requires { ⌜ (length (now gains) ≡ rows * bands) × (length (now bytes) ≡ sizeOf bands rows) ⌝ }
+    requires { ⌜ (length (now gains) ≡ rows * bands) × (length (now bytes) ≡ tableLength bands rows) ⌝ }
     ensures told { λ r. ⌜ tabulatedOf r ≡ storedTold bands rows (now (input .entry)) ⌝ }
     ensures written { λ r. ⌜ now (bytes .exit) ≡ storedOut bands rows (now (input .entry)) (now (bytes .entry)) ⌝ }
 {
@@ -174,19 +177,19 @@ pub fn tabulate(word: &[u8], input: &[u8], bytes: &mut [u8]) -> Tabulated
     if bands < 1 {
         return refused(7);
     }
-    let width = 4 * bands;
-    let rows = (input.len() + (width - 1)) / width;
-    if !size_ok(bands, rows) {
+    let row_bytes = 4 * bands;
+    let rows = (input.len() + (row_bytes - 1)) / row_bytes;
+    if !shape_ok(LEAST, bands, rows) {
         return refused(7);
     }
     if input.len() != 4 * (rows * bands) {
         return refused(9);
     }
-    let size = 512 * blocks_of(bands, rows);
-    if bytes.len() < size {
+    let end = 512 * blocks_of(bands, rows);
+    if bytes.len() < end {
         return refused(9);
     }
-    let mut gains = [0u16; 16384];
+    let mut gains = [0u16; GAIN_LIMIT];
     let n = rows * bands;
-    store(bands, rows, input, &mut gains[..n], &mut bytes[..size])
+    store(bands, rows, input, &mut gains[..n], &mut bytes[..end])
 }

@@ -2,26 +2,29 @@
 ghost use mathlib.Core.Path.{_≡_};
 ghost use Prim.Native.Nat.{_≤_};
 ghost use lib.ListN.{length};
+ghost use Rattle.answer.specs.Limits.{tableLimit, levelLimit, pairRoom};
+use answer::limits::LEVEL_LIMIT;
+use answer::limits::TABLE_LIMIT;
 use libc::STDOUT_FILENO;
 use lister_core::put_refused;
 use tabulate_core::tabulate;
 
-// One byte more than 1,024 rows of 16 levels have; an input's first 65,537 bytes decide (tabulate_core/proofs/Start.antt).
-fn input_buffer() -> [u8; 65537]
-    ensures { λ r. ⌜ 65537 ≡ length r ⌝ }
+// An input's first LEVEL_LIMIT bytes decide (tabulate_core/proofs/Start.antt).
+fn input_buffer() -> [u8; LEVEL_LIMIT]
+    ensures { λ r. ⌜ levelLimit ≡ length r ⌝ }
 {
-    [0; 65537]
+    [0; LEVEL_LIMIT]
 }
 
 // The largest table.
-fn table_buffer() -> [u8; 35328]
-    ensures { λ r. ⌜ 35328 ≡ length r ⌝ }
+fn table_buffer() -> [u8; TABLE_LIMIT]
+    ensures { λ r. ⌜ tableLimit ≡ length r ⌝ }
 {
-    [0; 35328]
+    [0; TABLE_LIMIT]
 }
 
 fn show(from: i32, word: &[u8], refusals: i32, input: &mut [u8], table: &mut [u8], line: &mut [u8])
-    requires { ⌜ 64 ≤ length (now line) ⌝ }
+    requires { ⌜ pairRoom ≤ length (now line) ⌝ }
 {
     let n = io::read_full(from, input);
     let told = tabulate(word, &input[..n], table);

@@ -6,14 +6,13 @@ use mathlib.Core.List.{List, [], _∷_, _++_}
 use native.Mathlib.Omega.{arith}
 use lib.ListN.{replicate}
 use Rattle.lists.specs.Index.{sumTo}
-use Rattle.lister_core.specs.Listed.{answerText, listed}
-use Rattle.lister_core.proofs.Case as lister
-use Rattle.block.specs.Limits.{form1}
-use Rattle.block.specs.Read.{gainsOf}
-use Rattle.table.specs.Told.{tableTold}
+use Rattle.lister_core.specs.Listed.{answerText, listedBy, listed}
+use Rattle.lister_core.proofs.Cases as lister
+use Rattle.table.specs.Release.{release, tableTold, tableGains}
 use Rattle.block.specs.Write.{rowOk, gainOf}
-use Rattle.block.proofs.Case as table
-use Rattle.table_facts.proofs.Readable.{told-judged}
+use Rattle.block.proofs.Cases as table
+use Rattle.table.proofs.Form1.{sound}
+use Rattle.table.proofs.Readable.{told-judged}
 use Rattle.table_facts.proofs.Written.{table-reads, some-block, gains-back}
 
 abbrev pub oneBand : List ℕ
@@ -34,15 +33,15 @@ row-0 = refl
 adds : (R : ℕ) → R < 1 → rowOk 32768 (gainOf gains) 1 R ≡ true
 adds R l = subst (λ r. rowOk 32768 (gainOf gains) 1 r ≡ true) (let z : 0 ≡ R = omega arith in z) row-0
 
-one-told : tableTold form1 oneBand ≡ (0, 0, 1, 1)
+one-told : tableTold oneBand ≡ (0, 0, 1, 1)
 one-told =
-    subst (λ (s : List ℕ). tableTold form1 s ≡ (0, 0, 1, 1)) table.one-band
-    (told-judged _ 1 1 (table-reads 1 1 gains refl adds) (some-block 1 1 gains refl adds))
+    subst (λ (s : List ℕ). tableTold s ≡ (0, 0, 1, 1)) table.one-band
+    (told-judged _ 1 1 (table-reads release sound 1 1 gains refl adds) (some-block release sound 1 1 gains refl adds))
 
-one-gains : gainsOf form1 oneBand ≡ gains
-one-gains = subst (λ (s : List ℕ). gainsOf form1 s ≡ gains) table.one-band (gains-back 1 1 gains refl adds refl)
+one-gains : tableGains oneBand ≡ gains
+one-gains = subst (λ (s : List ℕ). tableGains s ≡ gains) table.one-band (gains-back release sound 1 1 gains refl adds refl)
 
 pub one-listed : listed oneBand ≡ twoLines
-unfolding listed answerText
+unfolding listedBy answerText
 one-listed =
-    ap (λ t. answerText t (gainsOf form1 oneBand)) one-told ∙ ap (answerText (0, 0, 1, 1)) one-gains ∙ lister.one-band
+    ap (λ t. answerText t (tableGains oneBand)) one-told ∙ ap (answerText (0, 0, 1, 1)) one-gains ∙ lister.one-band

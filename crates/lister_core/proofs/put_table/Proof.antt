@@ -2,6 +2,7 @@ use Prim.Native.Nat.{_+_, _-_, _*_, _≤_}
 use mathlib.Core.Path.{_≡_, refl}
 use native.Mathlib.Omega.{arith}
 use lib.ListN.{length}
+use Rattle.answer.specs.Limits.{bandLimit, lineRoom}
 use Rattle.digits.proofs.Written.{wrote-length}
 use Rattle.lister_core.specs.Listed.{rowsText}
 use Rattle.lister_core.proofs.Room.{Put}
@@ -10,12 +11,12 @@ use Rattle.lister_core.proofs.put_table.Statement.{statement}
 use Rattle.lister_core.proofs.put_table.Tie as tie
 
 abbrev Inv-loop : tie.InvT-loop
-Inv-loop bands rows gains out₀ width next₀ row₀ at₀ out next row at =
-    (row ≤ rows) × (at ≡ row * bands) × (next₀ + 107 * rows ≤ length out₀) × (length out ≡ length out₀)
-    × Put (107 * row) (rowsText bands gains row) next₀ out₀ out next
+Inv-loop bands rows gains out₀ b next₀ row₀ at₀ out next row at =
+    (row ≤ rows) × (at ≡ row * bands) × (next₀ + lineRoom bandLimit * rows ≤ length out₀) × (length out ≡ length out₀)
+    × Put (lineRoom bandLimit * row) (rowsText bands gains row) next₀ out₀ out next
 
 abbrev μ-loop : tie.MeasureT-loop
-μ-loop bands rows gains out₀ width next₀ row₀ at₀ out next row at = rows - row
+μ-loop bands rows gains out₀ b next₀ row₀ at₀ out next row at = rows - row
 
 put-head-requires : tie.Need-put-head-requires Inv-loop μ-loop
 put-head-requires c κs = omega arith

@@ -1,4 +1,4 @@
-use mathlib.Core.Path.{sym, _∙_}
+use mathlib.Core.Path.{sym}
 use native.Mathlib.Omega.{arith}
 use lib.Seq.{length-take-le}
 use borrow.Author.Needs.{needs}
@@ -9,33 +9,21 @@ use Rattle.lister_io.proofs.show.Tie as tie
 read-full-requires : tie.Need-read-full-requires
 read-full-requires c κs = search needs
 
-slice-reshare-prefix-input : tie.Need-slice-reshare-prefix-input
-slice-reshare-prefix-input c = search needs
-
-slice-aggregate-input : tie.Need-slice-aggregate-input
-slice-aggregate-input c = search needs
-
-gains-in-requires : tie.Need-gains-in-requires
-gains-in-requires c κs = search needs
-
-slice-relend-prefix-list : tie.Need-slice-relend-prefix-list
-slice-relend-prefix-list c = search needs
+slice-reshare-prefix-list : tie.Need-slice-reshare-prefix-list
+slice-reshare-prefix-list c = search needs
 
 slice-aggregate-list : tie.Need-slice-aggregate-list
-slice-aggregate-list c = sym (length-take-le _ _ (omega (arith, c .before .gains-in .ensures .1, c .before .before .before .before .before .before .before .before .before .before .pre .0)))
+slice-aggregate-list c = search needs
 
 list-requires : tie.Need-list-requires
-list-requires c κs =
-    let at-gains-in = c .before .before in
-    let start = at-gains-in .before .before .before .before .before .before .before .before .before in
-    (length-take-le _ _ (omega (arith, at-gains-in .gains-in .ensures .1, start .pre .0)) ∙ at-gains-in .gains-in .ensures .0, start .pre .1)
+list-requires c κs = search needs
 
 slice-reshare-prefix-write-all : tie.Need-slice-reshare-prefix-write-all
 slice-reshare-prefix-write-all c = search needs
 
 slice-aggregate-write-all : tie.Need-slice-aggregate-write-all
 slice-aggregate-write-all c =
-    let e = c .before .before .before .before .before .list .ensures in
+    let e = c .before .before .before .list .ensures in
     sym (length-take-le _ _ (omega (arith, e .fits, wrote-length e)))
 
 write-all-requires : tie.Need-write-all-requires
@@ -47,9 +35,6 @@ same-length c = search needs
 same-length-2 : tie.Need-same-length-2
 same-length-2 c = search needs
 
-same-length-3 : tie.Need-same-length-3
-same-length-3 c = search needs
-
 returns : tie.Need-returns
 returns c = search needs
 
@@ -58,10 +43,7 @@ show-spec =
     tie.close
     (tie.spec
     read-full-requires
-    slice-reshare-prefix-input
-    slice-aggregate-input
-    gains-in-requires
-    slice-relend-prefix-list
+    slice-reshare-prefix-list
     slice-aggregate-list
     list-requires
     slice-reshare-prefix-write-all
@@ -69,5 +51,4 @@ show-spec =
     write-all-requires
     same-length
     same-length-2
-    same-length-3
     returns)

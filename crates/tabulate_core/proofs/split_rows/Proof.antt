@@ -3,7 +3,8 @@ use mathlib.Core.Path.{sym, _∙_}
 use native.Mathlib.Omega.{arith}
 use borrow.Author.Needs.{needs}
 use borrow.Author.Tests.{not-true, not-false}
-use Rattle.tabulate_core.proofs.Rows.{Going, going-none, going-inside, going-more, going-all, part-length, row-place, row-stops, rows-end, not-zero, few-gains}
+use Rattle.answer.proofs.Follows.{few-gains}
+use Rattle.tabulate_core.proofs.Rows.{Going, going-none, going-inside, going-more, going-all, part-length, row-place, row-stops, rows-end, not-zero}
 use Rattle.tabulate_core.proofs.split_rows.Statement.{statement}
 use Rattle.tabulate_core.proofs.split_rows.Tie as tie
 

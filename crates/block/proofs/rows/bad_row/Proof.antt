@@ -5,14 +5,14 @@ use lib.ListN.{getD}
 use borrow.Author.Count.{below-none, below-more}
 use borrow.Author.Tests.{eq-eqb, ne-eqb}
 use Rattle.lists.proofs.First.{Passed, first-at, first-end}
-use Rattle.block.specs.Limits.{form1}
+use Rattle.answer.specs.Limits.{parts}
 use Rattle.block.specs.Write.{rowOk, badRow, gainOf}
 use Rattle.block.proofs.Totals.{row-sum, row-in, row-next}
 use Rattle.block.proofs.rows.bad_row.Statement.{statement}
 use Rattle.block.proofs.rows.bad_row.Tie as tie
 
 abbrev Inv-loop : tie.InvT-loop
-Inv-loop gains bands rows r₀ at₀ r at = (r ≤ rows) × (at ≡ r * bands) × Passed (rowOk (form1 .parts) (gainOf gains) bands) r
+Inv-loop gains bands rows r₀ at₀ r at = (r ≤ rows) × (at ≡ r * bands) × Passed (rowOk parts (gainOf gains) bands) r
 
 abbrev μ-loop : tie.MeasureT-loop
 μ-loop gains bands rows r₀ at₀ r at = rows - r

@@ -4,7 +4,7 @@ use native.Mathlib.Omega.{arith}
 use borrow.Author.Count.{below-none, below-more}
 use borrow.Author.Tests.{eq-eqb, ne-eqb}
 use Rattle.lists.proofs.First.{Passed, first-at, first-end}
-use Rattle.block.specs.Limits.{form1}
+use Rattle.answer.specs.Limits.{parts}
 use Rattle.block.specs.Write.{rowOk, badRow}
 use Rattle.block.specs.Read.{bytesFrom, gainIn}
 use Rattle.block.proofs.Totals.{row-sum, row-in, row-next, gain-row}
@@ -12,7 +12,7 @@ use Rattle.block.proofs.rows.bad_row_at.Statement.{statement}
 use Rattle.block.proofs.rows.bad_row_at.Tie as tie
 
 abbrev Inv-loop : tie.InvT-loop
-Inv-loop bytes at bands n r₀ p₀ r p = (r ≤ n) × (p ≡ 8 + 2 * (r * bands)) × Passed (rowOk (form1 .parts) (gainIn (bytesFrom bytes at)) bands) r
+Inv-loop bytes at bands n r₀ p₀ r p = (r ≤ n) × (p ≡ 8 + 2 * (r * bands)) × Passed (rowOk parts (gainIn (bytesFrom bytes at)) bands) r
 
 abbrev μ-loop : tie.MeasureT-loop
 μ-loop bytes at bands n r₀ p₀ r p = n - r

@@ -1,6 +1,6 @@
 use borrow.Author.Tests.{le-leb, lt-leb}
-use Rattle.block.proofs.counts.size_ok.Statement.{statement}
-use Rattle.block.proofs.counts.size_ok.Tie as tie
+use Rattle.block.proofs.counts.shape_ok.Statement.{statement}
+use Rattle.block.proofs.counts.shape_ok.Tie as tie
 
 returns : tie.Need-returns
 returns c = simp (lt-leb _ _ (c .if1 .taken))
@@ -25,5 +25,5 @@ returns-5 c =
     let at-if1 = at-if2 .before in
     simp (le-leb _ _ (at-if1 .if1 .left), le-leb _ _ (at-if2 .if2 .left), le-leb _ _ (c .before .if3 .left), le-leb _ _ (c .if4 .left))
 
-pub size-ok-spec : {M : Type 1} → statement M
-size-ok-spec = tie.close (tie.spec returns returns-2 returns-3 returns-4 returns-5)
+pub shape-ok-spec : {M : Type 1} → statement M
+shape-ok-spec = tie.close (tie.spec returns returns-2 returns-3 returns-4 returns-5)
