@@ -7,17 +7,17 @@ use native.Mathlib.Omega.{arith}
 use lib.ListN.{getD}
 use borrow.Author.Tests.{lt-ltb, le-ltb}
 use Rattle.lists.proofs.Sum.{sum-same}
-use Rattle.block.specs.Block.{half, bytesOf, checkA, checkB, sealed, blockByte, perBlock, held, blockWord, stored, tableByte}
+use Rattle.block.specs.Block.{half, bytesOf, checkA, checkB, sealed, blockByte, perBlock, heldRows, blockWord, stored, tableByte}
 
 -- the numbers of a block past its header
-pub word-in : (form W B N : ℕ) (f : ℕ → ℕ) (k j : ℕ) → 4 ≤ j → j - 4 < held W N k * W
+pub word-in : (form W B N : ℕ) (f : ℕ → ℕ) (k j : ℕ) → 4 ≤ j → j - 4 < heldRows W N k * W
     → blockWord form W B N f k j ≡ f (k * (perBlock W * W) + (j - 4))
 unfolding blockWord
-word-in form W B N f k j h l = rw (le-ltb j 4 h, lt-ltb (j - 4) (held W N k * W) l)
+word-in form W B N f k j h l = rw (le-ltb j 4 h, lt-ltb (j - 4) (heldRows W N k * W) l)
 
-pub word-out : (form W B N : ℕ) (f : ℕ → ℕ) (k j : ℕ) → 4 ≤ j → held W N k * W ≤ j - 4 → blockWord form W B N f k j ≡ 0
+pub word-out : (form W B N : ℕ) (f : ℕ → ℕ) (k j : ℕ) → 4 ≤ j → heldRows W N k * W ≤ j - 4 → blockWord form W B N f k j ≡ 0
 unfolding blockWord
-word-out form W B N f k j h l = rw (le-ltb j 4 h, le-ltb (j - 4) (held W N k * W) l)
+word-out form W B N f k j h l = rw (le-ltb j 4 h, le-ltb (j - 4) (heldRows W N k * W) l)
 
 -- the bytes of numbers
 pub bytes-low : (w : ℕ → ℕ) (j : ℕ) → bytesOf w (2 * j) ≡ w j % 256

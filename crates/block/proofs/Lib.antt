@@ -1,4 +1,4 @@
-pub mod Sizes
+pub mod Shape
 pub mod Bytes
 pub mod Storing
 pub mod Totals

@@ -10,7 +10,7 @@ use Rattle.answer.specs.Answer.{Test, judged, whenDone}
 use Rattle.answer.specs.declared.Answer.{Answer}
 use Rattle.answer.specs.declared.Refusal.the-variants.{Length, StoredLength, RowTotal, Check, Header, Unused}
 use Rattle.block.specs.Form.{Form}
-use Rattle.block.specs.Block.{checkA, checkB, perBlock, blocks, held, given}
+use Rattle.block.specs.Block.{checkA, checkB, perBlock, blocks, heldRows, given}
 use Rattle.block.specs.Write.{shapeOkBy, badRow}
 
 -- the bytes of s from `at` on, by index; block k of a table is from 512 * k on
@@ -51,7 +51,7 @@ blank f from = leb (508 - from) (firstNot (λ i. eqb (f (from + i)) 0) (508 - fr
 -- the rows and the unused bytes of block k, in a table of B bands and N rows: 8, 12
 unfoldable pub rowTestsBy : Form → ℕ → ℕ → (ℕ → ℕ) → ℕ → List Test
 rowTestsBy F B N f k =
-    let n = held (F .width B) N k in
+    let n = heldRows (F .width B) N k in
     let bad = badRow (F .parts) (given (F .parts) (F .width B) B (gainIn f)) B n in
     (ltb bad n, RowTotal (k * perBlock (F .width B) + bad)) ∷ (not (blank f (8 + 2 * (n * F .width B))), Unused k) ∷ []
 

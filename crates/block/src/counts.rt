@@ -2,7 +2,7 @@
 ghost use mathlib.Core.Path.{_≡_};
 ghost use Prim.Native.Nat.{_<_};
 ghost use Rattle.answer.specs.Limits.{bandLimit, rowLimit};
-ghost use Rattle.block.specs.Block.{blocks, held};
+ghost use Rattle.block.specs.Block.{blocks, heldRows};
 ghost use Rattle.block.specs.Write.{within};
 ghost use Rattle.block.specs.Asked.{Fits};
 use answer::limits::BAND_LIMIT;
@@ -37,7 +37,7 @@ pub fn blocks_of(width: usize, rows: usize) -> usize
 
 pub fn held_in(width: usize, rows: usize, k: usize) -> usize
     requires { ⌜ Fits width rows × (k < blocks width rows) ⌝ }
-    ensures { λ r. ⌜ r ≡ held width rows k ⌝ }
+    ensures { λ r. ⌜ r ≡ heldRows width rows k ⌝ }
 {
     let per = 250 / width;
     let left = rows - per * k;

@@ -3,7 +3,7 @@ ghost use mathlib.Core.Path.{_≡_};
 ghost use Prim.Native.Nat.{_+_, _*_, _<_, _≤_};
 ghost use lib.ListN.{length};
 ghost use Rattle.lists.specs.Index.{Placed};
-ghost use Rattle.block.specs.Block.{perBlock, blocks, held, blockWord, stored, tableByte, tableBytes};
+ghost use Rattle.block.specs.Block.{perBlock, blocks, heldRows, blockWord, stored, tableByte, tableBytes};
 ghost use Rattle.block.specs.Asked.{Storable};
 use crate::counts::blocks_of;
 use crate::counts::held_in;
@@ -23,7 +23,7 @@ fn block_word(
     j: usize,
 ) -> u16
     requires { ⌜ Storable width bands rows (now gains) × (k < blocks width rows) ⌝ }
-    requires { ⌜ (start ≡ k * (perBlock width * width)) × (count ≡ held width rows k * width) ⌝ }
+    requires { ⌜ (start ≡ k * (perBlock width * width)) × (count ≡ heldRows width rows k * width) ⌝ }
     ensures { λ r. ⌜ r ≡ blockWord form width bands rows (stored width bands (now (gains .entry))) k j ⌝ }
 {
     if j == 0 {

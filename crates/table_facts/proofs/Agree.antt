@@ -11,10 +11,10 @@ use Rattle.answer.specs.Answer.{judged}
 use Rattle.answer.specs.declared.Answer.the-variants.{Done}
 use Rattle.answer.proofs.Chain.{opened, gives, skip, rest}
 use Rattle.block.specs.Form.{Form, Sound}
-use Rattle.block.specs.Block.{blocks, held}
+use Rattle.block.specs.Block.{blocks, heldRows}
 use Rattle.block.specs.Read.{bytesFrom, wordAt, bandsOf, rowsOf, blockTestsBy, blockAnswerBy}
 use Rattle.table.specs.Table.{blockToldOf, blockWith, headerBy, blockToldBy, readToldBy, tableToldBy}
-use Rattle.block.proofs.Sizes.{per-pos, lt-blocks}
+use Rattle.block.proofs.Shape.{per-pos, lt-blocks}
 use Rattle.block.proofs.Tests.{head-is}
 use Rattle.table.proofs.Reading.{Good, good, good-passes}
 use Rattle.table.proofs.Readable.{Reads, block-done, reads, reads-known, judged-reads, told-read, told-judged}
@@ -23,7 +23,7 @@ use Rattle.table_facts.proofs.Part.{blockOf, block-byte, block-long, wo
 pub record EachReads (F : Form) (s : List ℕ) (B N : ℕ) : Type 0 where
   pub some : 0 < length s
   pub long : length s ≡ 512 * blocks (F .width B) N
-  pub each : (k : ℕ) → k < blocks (F .width B) N → blockToldBy F k (blockOf s k) ≡ (0, 0, F .code, k, B, N, held (F .width B) N k)
+  pub each : (k : ℕ) → k < blocks (F .width B) N → blockToldBy F k (blockOf s k) ≡ (0, 0, F .code, k, B, N, heldRows (F .width B) N k)
 
 abbrev pub ReadersAgree : Form → Type 0
 ReadersAgree F =
@@ -48,7 +48,7 @@ module _ (F : Form) (s : List ℕ) (B N k : ℕ) where
   alike i l = block-byte s k i l
 
   -- a block that is good where it stands is read by itself
-  told-alone : 512 * k + 512 ≤ length s → Good F B N (bytesFrom s (512 * k)) k → blockToldBy F k (blockOf s k) ≡ (0, 0, F .code, k, B, N, held (F .width B) N k)
+  told-alone : 512 * k + 512 ≤ length s → Good F B N (bytesFrom s (512 * k)) k → blockToldBy F k (blockOf s k) ≡ (0, 0, F .code, k, B, N, heldRows (F .width B) N k)
   unfolding blockAnswerBy part f
   told-alone l g =
       let h = head-is {F = F} f k (g .head) in
@@ -61,10 +61,10 @@ module _ (F : Form) (s : List ℕ) (B N k : ℕ) where
       sym (ap (λ a. blockToldOf (blockWith a (headerBy F part k))) d) ∙ rw (b, n, o, m) refl
 
   -- and the other way round
-  good-there : blockToldBy F k (blockOf s k) ≡ (0, 0, F .code, k, B, N, held (F .width B) N k) → Good F B N (bytesFrom s (512 * k)) k
+  good-there : blockToldBy F k (blockOf s k) ≡ (0, 0, F .code, k, B, N, heldRows (F .width B) N k) → Good F B N (bytesFrom s (512 * k)) k
   unfolding blockAnswerBy part f
   good-there e =
-      let t = block-done (blockAnswerBy F k (blockOf s k)) (headerBy F part k) (F .code) k B N (held (F .width B) N k) e in
+      let t = block-done (blockAnswerBy F k (blockOf s k)) (headerBy F part k) (F .code) k B N (heldRows (F .width B) N k) e in
       let b : bandsOf part ≡ B = t .1 in
       let n : rowsOf part ≡ N = t .2 in
       let d : Done ≡ judged (blockTestsBy F (bandsOf part) (rowsOf part) part k) = opened _ _ _ (t .0) .1 in

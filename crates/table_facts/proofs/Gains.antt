@@ -8,10 +8,10 @@ use native.Mathlib.Omega.{arith}
 use lib.ListN.{length}
 use Rattle.lists.proofs.Tab.{tab-length, tab-at}
 use Rattle.block.specs.Form.{Form, Sound}
-use Rattle.block.specs.Block.{perBlock, blocks, held, given}
+use Rattle.block.specs.Block.{perBlock, blocks, heldRows, given}
 use Rattle.block.specs.Write.{rowOk, gainOf}
 use Rattle.block.specs.Read.{bytesFrom, gainIn, gainAt, tableGainsBy}
-use Rattle.block.proofs.Sizes.{per-pos, lt-blocks, wide-pos}
+use Rattle.block.proofs.Shape.{per-pos, lt-blocks, wide-pos}
 use Rattle.block.proofs.Totals.{row-same}
 use Rattle.block.proofs.Given.{given-same}
 use Rattle.table.proofs.Reading.{gains-are}
@@ -37,7 +37,7 @@ module _ {F : Form} (S : Sound F) (s : List ℕ) (B N : ℕ) (r : Reads F s B N)
       ∙ tab-at (given (F .parts) W B (gainAt W s)) (N * B) i 0 l
 
   pub rows-add : (R : ℕ) → R < N → rowOk (F .parts) (gainOf (tableGainsBy F s)) B R ≡ true
-  unfolding held
+  unfolding heldRows
   rows-add R l =
       let fit = reads-known S r .fits in
       let P : ℕ = perBlock W in

@@ -9,10 +9,10 @@ use lib.Seq.{getD-take, getD-drop}
 use lib.Dec.{leb, eqb}
 use Rattle.lists.proofs.First.{first-same}
 use Rattle.block.specs.Form.{Form}
-use Rattle.block.specs.Block.{held, given}
+use Rattle.block.specs.Block.{heldRows, given}
 use Rattle.block.specs.Write.{rowOk, badRow}
 use Rattle.block.specs.Read.{bytesFrom, wordAt, gainIn, checksOk, headOkBy, blank, rowTestsBy, blockTestsBy}
-use Rattle.block.proofs.Sizes.{held-small}
+use Rattle.block.proofs.Shape.{held-small}
 use Rattle.block.proofs.Bytes.{checkA-same, checkB-same}
 use Rattle.block.proofs.Totals.{row-same}
 use Rattle.block.proofs.Given.{given-same}
@@ -75,7 +75,7 @@ module _ (f g : ℕ → ℕ) (same : (i : ℕ) → i < 512 → f i ≡ g i) wher
         head-same F k,
         word-same 4 (omega arith),
         word-same 6 (omega arith),
-        bad-same (F .parts) W B (held W N k) (held-small W N k),
-        blank-same (8 + 2 * (held W N k * W)),
+        bad-same (F .parts) W B (heldRows W N k) (held-small W N k),
+        blank-same (8 + 2 * (heldRows W N k * W)),
       )
       refl

@@ -9,11 +9,11 @@ use lib.ListN.{length, getD}
 use Rattle.lists.proofs.Tab.{tab-is}
 use Rattle.answer.specs.Answer.{whenDone}
 use Rattle.block.specs.Form.{Form, Sound}
-use Rattle.block.specs.Block.{perBlock, blocks, held, given, stored, tableByte, tableBytes}
+use Rattle.block.specs.Block.{perBlock, blocks, heldRows, given, stored, tableByte, tableBytes}
 use Rattle.block.specs.Write.{writeOutBy}
 use Rattle.block.specs.Read.{bytesFrom, gainIn, gainAt, readOutBy, tableGainsBy}
 use Rattle.table.specs.Table.{readToldBy}
-use Rattle.block.proofs.Sizes.{per-pos, held-fits, held-wide, wide-pos}
+use Rattle.block.proofs.Shape.{per-pos, held-fits, held-wide, wide-pos}
 use Rattle.block.proofs.Bytes.{table-at}
 use Rattle.block.proofs.Given.{stored-given}
 use Rattle.table.proofs.Readable.{Reads, reads, reads-known, read-out}
@@ -45,7 +45,7 @@ module _ {F : Form} (S : Sound F) (s : List ℕ) (B N : ℕ) (r : Reads F s B N)
       ∙ stored-given (F .parts) W B (gainAt W s) i (fit .some) (S .thin B)
 
   -- the gains that block k holds
-  same : (k : ℕ) → k < blocks W N → (i : ℕ) → i < held W N k * W
+  same : (k : ℕ) → k < blocks W N → (i : ℕ) → i < heldRows W N k * W
       → stored W B (tableGainsBy F s) (k * (perBlock W * W) + i) ≡ gainIn (bytesFrom s (512 * k)) i
   same k kb i l =
       let fit = reads-known S r .fits in

@@ -13,10 +13,10 @@ use Rattle.answer.specs.declared.Answer.the-variants.{Done}
 use Rattle.answer.specs.Answer.{judged}
 use Rattle.answer.proofs.Chain.{gives, skip, clear, found-none}
 use Rattle.block.specs.Form.{Form, Sound}
-use Rattle.block.specs.Block.{half, bytesOf, blockByte, perBlock, blocks, held, blockWord, given, stored, tableByte, tableBytes}
+use Rattle.block.specs.Block.{half, bytesOf, blockByte, perBlock, blocks, heldRows, blockWord, given, stored, tableByte, tableBytes}
 use Rattle.block.specs.Write.{shapeOkBy, rowOk, badRow, gainOf}
 use Rattle.block.specs.Read.{bytesFrom, wordAt, bandsOf, rowsOf, gainIn, checksOk, headOkBy, blank, rowTestsBy, gainAt, tableGainsBy}
-use Rattle.block.proofs.Sizes.{per-pos, lt-blocks, before-block, held-rows, held-small, gain-block, held-has}
+use Rattle.block.proofs.Shape.{per-pos, lt-blocks, before-block, held-rows, held-small, gain-block, held-has}
 use Rattle.block.proofs.Bytes.{word-in, word-out, half-zero, sealed-in, block-body, checkA-is, checkB-is, table-at}
 use Rattle.block.proofs.Given.{given-same, given-back}
 use Rattle.block.specs.Asked.{Fits}
@@ -70,7 +70,7 @@ module _ (F : Form) (S : Sound F) (B N : ℕ) (gains : ℕ → ℕ) (shape : sha
         eq-eqb (F .code) (F .code) refl,
       )
 
-  pub gain-is : (i : ℕ) → i < held W N k * W → gainIn f i ≡ gains (k * (perBlock W * W) + i)
+  pub gain-is : (i : ℕ) → i < heldRows W N k * W → gainIn f i ≡ gains (k * (perBlock W * W) + i)
   unfolding gainIn w
   gain-is i l =
       let e : 8 + 2 * i ≡ 2 * (4 + i) = omega arith in
@@ -78,11 +78,11 @@ module _ (F : Form) (S : Sound F) (B N : ℕ) (gains : ℕ → ℕ) (shape : sha
       ap (wordAt f) e ∙ word-of (4 + i) (omega (arith, held-small W N k)) ∙ word-in (F .code) W B N gains k (4 + i) (omega arith) (omega arith)
       ∙ ap (λ (x : ℕ). gains (k * (perBlock W * W) + x)) z
 
-  row-is : (r : ℕ) → r < held W N k → rowOk (F .parts) (given (F .parts) W B (gainIn f)) B r ≡ true
+  row-is : (r : ℕ) → r < heldRows W N k → rowOk (F .parts) (given (F .parts) W B (gainIn f)) B r ≡ true
   row-is r l =
       let fit : Fits W N = shape-fits S (shape-is {F = F} B N shape) in
       let e = add-mul (perBlock W * k) r W in
-      let m : suc r * W ≤ held W N k * W = mul-le-mul-right W l in
+      let m : suc r * W ≤ heldRows W N k * W = mul-le-mul-right W l in
       row-same (F .parts) (given (F .parts) W B (gainIn f)) (given (F .parts) W B gains) B r (perBlock W * k + r)
       (λ j h.
       sym (given-same (F .parts) W B (gainIn f) gains r (perBlock W * k + r)
@@ -91,10 +91,10 @@ module _ (F : Form) (S : Sound F) (B N : ℕ) (gains : ℕ → ℕ) (shape : sha
       gain-is (r * W + x) (omega (arith, suc-mul r W)) ∙ ap gains z) j h))
       ∙ adds (perBlock W * k + r) (held-rows W N k r (per-pos W (fit .some) (fit .most)) inside l)
 
-  blank-is : blank f (8 + 2 * (held W N k * W)) ≡ true
+  blank-is : blank f (8 + 2 * (heldRows W N k * W)) ≡ true
   unfolding blank bytesOf w
   blank-is =
-      let c : ℕ = held W N k * W in
+      let c : ℕ = heldRows W N k * W in
       sym (all-pass _ (508 - (8 + 2 * c)) (508 - (8 + 2 * c)) (omega arith) (omega arith)
       (λ i l.
       eq-eqb _ _
@@ -105,8 +105,8 @@ module _ (F : Form) (S : Sound F) (B N : ℕ) (gains : ℕ → ℕ) (shape : sha
   rows-pass : Done ≡ judged (rowTestsBy F B N f k)
   unfolding rowTestsBy badRow
   rows-pass =
-      let e = first-end (rowOk (F .parts) (given (F .parts) W B (gainIn f)) B) (held W N k) (held W N k) (omega arith) (omega arith) row-is in
-      gives (found-none (held W N k) e (omega arith) (skip (ap not blank-is) clear))
+      let e = first-end (rowOk (F .parts) (given (F .parts) W B (gainIn f)) B) (heldRows W N k) (heldRows W N k) (omega arith) (omega arith) row-is in
+      gives (found-none (heldRows W N k) e (omega arith) (skip (ap not blank-is) clear))
 
   pub block-good : Good F B N f k
   block-good = record { checks = checks-are; head = head-is-ok; bands = bands-are; rows = rows-are; body = rows-pass }

@@ -2,7 +2,7 @@ use Prim.Native.Nat.{_*_}
 use mathlib.Core.Path.{sym, ap, _∙_}
 use native.Mathlib.Omega.{arith}
 use borrow.Author.Needs.{needs}
-use Rattle.block.proofs.Sizes.{gain-block}
+use Rattle.block.proofs.Shape.{gain-block}
 use Rattle.table.proofs.Form1.{gains-of}
 use Rattle.digits.proofs.Written.{wrote-as}
 use Rattle.lister_core.specs.Listed.{tableText}

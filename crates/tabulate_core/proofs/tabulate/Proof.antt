@@ -8,7 +8,7 @@ use borrow.Author.Needs.{needs}
 use borrow.Author.Tests.{eq-eqb, ne-eqb, not-false}
 use Rattle.answer.specs.declared.Refusal.the-variants.{Count, StoredLength}
 use Rattle.answer.proofs.Chain.{stop, skip, clear}
-use Rattle.block.proofs.Sizes.{blocks-small}
+use Rattle.block.proofs.Shape.{blocks-small}
 use Rattle.answer.proofs.Follows.{few-gains}
 use Rattle.block.proofs.Tests.{Within, shape-is, shape-fits}
 use Rattle.table.specs.Release.{release}

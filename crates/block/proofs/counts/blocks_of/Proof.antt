@@ -1,6 +1,6 @@
 use native.Mathlib.Omega.{arith}
 use Rattle.block.specs.Block.{blocks}
-use Rattle.block.proofs.Sizes.{per-pos, per-small}
+use Rattle.block.proofs.Shape.{per-pos, per-small}
 use Rattle.block.proofs.counts.blocks_of.Statement.{statement}
 use Rattle.block.proofs.counts.blocks_of.Tie as tie
 

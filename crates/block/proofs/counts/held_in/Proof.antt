@@ -1,7 +1,7 @@
 use Prim.Native.Nat.{_*_, _<_}
 use native.Mathlib.Omega.{arith}
-use Rattle.block.specs.Block.{perBlock, held}
-use Rattle.block.proofs.Sizes.{per-pos, blocks-lt}
+use Rattle.block.specs.Block.{perBlock, heldRows}
+use Rattle.block.proofs.Shape.{per-pos, blocks-lt}
 use Rattle.block.proofs.counts.held_in.Statement.{statement}
 use Rattle.block.proofs.counts.held_in.Tie as tie
 
@@ -19,11 +19,11 @@ sub-left : tie.Need-sub-left
 sub-left c = omega (arith, below c)
 
 returns : tie.Need-returns
-unfolding held
+unfolding heldRows
 returns c = omega arith
 
 returns-2 : tie.Need-returns-2
-unfolding held
+unfolding heldRows
 returns-2 c = omega arith
 
 pub held-in-spec : {M : Type 1} → statement M

@@ -3,7 +3,7 @@ use mathlib.Core.Path.{sym, ap, _∙_}
 use native.Mathlib.Omega.{arith}
 use lib.ListN.{length}
 use Rattle.block.specs.Block.{blockWord, stored}
-use Rattle.block.proofs.Sizes.{per-pos, few-blocks, stored-small, stored-in}
+use Rattle.block.proofs.Shape.{per-pos, few-blocks, stored-small, stored-in}
 use Rattle.block.proofs.Bytes.{word-in, word-out}
 use Rattle.block.proofs.store.block_word.Statement.{statement}
 use Rattle.block.proofs.store.block_word.Tie as tie

@@ -4,7 +4,7 @@ use native.Mathlib.Omega.{arith}
 use Rattle.lists.specs.Index.{Placed}
 use Rattle.lists.proofs.Placed.{placed-none}
 use Rattle.block.specs.Block.{tableByte}
-use Rattle.block.proofs.Sizes.{per-fits, held-small, start-small}
+use Rattle.block.proofs.Shape.{per-fits, held-small, start-small}
 use Rattle.block.proofs.Storing.{block-more, block-sealed}
 use Rattle.block.proofs.store.write_block.Statement.{statement}
 use Rattle.block.proofs.store.write_block.Tie as tie

@@ -6,7 +6,7 @@ use native.Mathlib.Decide.{decLt}
 use native.Mathlib.Nat.{le-div-iff-mul-le, div-lt-iff-lt-mul, div-mul-le-self, div-le-self, mul-le-mul, mul-le-mul-right, add-mul, mul-assoc, mul-comm, suc-mul, lt-div-mul-add, mod-lt, div-add-mod'}
 use native.Mathlib.Omega.{arith}
 use lib.ListN.{length}
-use Rattle.block.specs.Block.{perBlock, blocks, held}
+use Rattle.block.specs.Block.{perBlock, blocks, heldRows}
 use Rattle.block.specs.Asked.{Storable}
 
 -- a row fits a block
@@ -41,25 +41,25 @@ pub before-block : (P W k : ℕ) → k * (P * W) ≡ P * k * W
 before-block P W k = sym (mul-assoc k P W) ∙ ap (λ (x : ℕ). x * W) (mul-comm k P)
 
 -- the gains of block k
-pub held-fits : (W N k : ℕ) → 1 ≤ perBlock W → k < blocks W N → k * (perBlock W * W) + held W N k * W ≤ N * W
-unfolding held
+pub held-fits : (W N k : ℕ) → 1 ≤ perBlock W → k < blocks W N → k * (perBlock W * W) + heldRows W N k * W ≤ N * W
+unfolding heldRows
 held-fits W N k h l =
-    let m : (perBlock W * k + held W N k) * W ≤ N * W = mul-le-mul-right W (omega (arith, blocks-lt W N k h l)) in
-    omega (arith, before-block (perBlock W) W k, add-mul (perBlock W * k) (held W N k) W)
+    let m : (perBlock W * k + heldRows W N k) * W ≤ N * W = mul-le-mul-right W (omega (arith, blocks-lt W N k h l)) in
+    omega (arith, before-block (perBlock W) W k, add-mul (perBlock W * k) (heldRows W N k) W)
 
-pub held-rows : (W N k r : ℕ) → 1 ≤ perBlock W → k < blocks W N → r < held W N k → perBlock W * k + r < N
-unfolding held
+pub held-rows : (W N k r : ℕ) → 1 ≤ perBlock W → k < blocks W N → r < heldRows W N k → perBlock W * k + r < N
+unfolding heldRows
 held-rows W N k r h l m = omega (arith, blocks-lt W N k h l)
 
-pub held-wide : (W N k : ℕ) → held W N k * W ≤ perBlock W * W
-unfolding held
+pub held-wide : (W N k : ℕ) → heldRows W N k * W ≤ perBlock W * W
+unfolding heldRows
 held-wide W N k = mul-le-mul-right W (omega arith)
 
-pub held-small : (W N k : ℕ) → held W N k * W ≤ 250
+pub held-small : (W N k : ℕ) → heldRows W N k * W ≤ 250
 held-small W N k = omega (arith, held-wide W N k, per-fits W)
 
-pub held-le : (W N k : ℕ) → held W N k ≤ 250
-unfolding held
+pub held-le : (W N k : ℕ) → heldRows W N k ≤ 250
+unfolding heldRows
 held-le W N k = omega (arith, per-small W)
 
 -- a full block has a gain
@@ -87,15 +87,15 @@ among P W N q r i e h l m = elim (decLt (N - P * q) P) [
   | no more ↦ let z : min P (N - P * q) ≡ P = omega arith in rw z h
 ]
 
-pub held-has : (W N i : ℕ) → 1 ≤ W → W ≤ 250 → i < N * W → i % (perBlock W * W) < held W N (i / (perBlock W * W)) * W
-unfolding held
+pub held-has : (W N i : ℕ) → 1 ≤ W → W ≤ 250 → i < N * W → i % (perBlock W * W) < heldRows W N (i / (perBlock W * W)) * W
+unfolding heldRows
 held-has W N i h l k =
     among (perBlock W) W N (i / (perBlock W * W)) (i % (perBlock W * W)) i (div-add-mod' i (perBlock W * W)) (mod-lt i (wide-pos W h l)) k
     (blocks-lt W N (i / (perBlock W * W)) (per-pos W h l) (gain-block W N i h l k))
 
 -- the stored gains of block k, `count` from `start` on, are among the table's, and each is one of the gains
 module _ {W B N : ℕ} {g : List ℕ} (s : Storable W B N g) (k start count i : ℕ) (kb : k < blocks W N)
-    (from : start ≡ k * (perBlock W * W)) (many : count ≡ held W N k * W) (l : i < count) where
+    (from : start ≡ k * (perBlock W * W)) (many : count ≡ heldRows W N k * W) (l : i < count) where
   stored-at : start + i < N * W
   stored-at = omega (arith, held-fits W N k (per-pos W (s .fits .some) (s .fits .most)) kb)
 
