@@ -1,3 +1,4 @@
+-- One return for each way: an input over the cap, a table that `shape_of` tells of, a refusal.
 use mathlib.Core.Path.{sym, ap, ap₂, _∙_}
 use native.Mathlib.Omega.{arith}
 use borrow.Author.Needs.{needs}

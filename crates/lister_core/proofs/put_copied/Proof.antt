@@ -1,3 +1,4 @@
+-- The copied gains are the table's, so what is put is its text.
 use Prim.Native.Nat.{_*_}
 use mathlib.Core.Path.{sym, ap, _∙_}
 use native.Mathlib.Omega.{arith}

@@ -1,3 +1,4 @@
+-- The row's number and its first i gains were put, with room left for the others.
 use Prim.Native.Nat.{_+_, _-_, _*_, _≤_}
 use mathlib.Core.Path.{_≡_, refl}
 use native.Mathlib.Omega.{arith}

@@ -1,3 +1,4 @@
+-- The first line and the lines of the first rows were put, with room left for the others.
 use Prim.Native.Nat.{_+_, _-_, _*_, _≤_}
 use mathlib.Core.Path.{_≡_, refl}
 use native.Mathlib.Omega.{arith}

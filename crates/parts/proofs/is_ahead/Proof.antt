@@ -1,3 +1,4 @@
+-- The four ways through the test: a larger remainder, an equal one with a lower or a higher band, a smaller one.
 use Prim.Native.Nat.{ℕ, _≤_, _<_}
 use mathlib.Core.Bool.{true, false}
 use mathlib.Core.Logic.{⊎-elim}

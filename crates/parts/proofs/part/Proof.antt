@@ -1,3 +1,4 @@
+-- The first i gains are the definition's; what each band's gain asks is at hand from the sum and the remainders.
 use Prim.Native.Nat.{_≤_, _-_}
 use mathlib.Core.Path.{ap}
 use native.Mathlib.Omega.{arith}

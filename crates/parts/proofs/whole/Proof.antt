@@ -1,3 +1,4 @@
+-- The first i remainders are stored, and the sum of the whole parts so far is the definition's and fits 64 bits.
 use Prim.Native.Nat.{_≤_, _*_, _-_, _/_, _%_}
 use mathlib.Core.Path.{_≡_, ap, _∙_, subst}
 use native.Mathlib.Nat.{div-le-self}

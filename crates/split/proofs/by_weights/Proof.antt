@@ -1,3 +1,4 @@
+-- Softmax's answer is the rest of the split's; where it is done its weights are such that steps and parts may be taken.
 use denote.Ref.{now}
 use Prim.Native.Nat.{ℕ, _≤_, _<_}
 use mathlib.Core.Bool.{true, false}

@@ -1,3 +1,4 @@
+-- Head and body in their order, as `read` has them, with nothing lent.
 use borrow.Author.Needs.{needs}
 use mathlib.Core.Path.{_≡_, sym, _∙_}
 use native.Mathlib.Omega.{arith}

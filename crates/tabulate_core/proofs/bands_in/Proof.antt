@@ -1,3 +1,4 @@
+-- The number that the bytes so far spell, and what the bytes that are left make of it.
 use Prim.Native.Nat.{_-_, _≤_}
 use mathlib.Core.Path.{_≡_, refl, _∙_}
 use native.Mathlib.Omega.{arith}

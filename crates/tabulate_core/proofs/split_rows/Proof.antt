@@ -1,3 +1,4 @@
+-- The rows so far were split and their gains are in place; the first that is refused ends it.
 use Prim.Native.Nat.{_-_}
 use mathlib.Core.Path.{sym, _∙_}
 use native.Mathlib.Omega.{arith}

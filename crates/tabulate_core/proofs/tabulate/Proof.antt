@@ -1,3 +1,4 @@
+-- Bands, rows, the input's length and the lent bytes in their order; past them the rows are split and stored.
 use Prim.Native.Nat.{ℕ, _+_, _-_, _*_, _/_}
 use mathlib.Core.Path.{refl, sym, ap, _∙_}
 use mathlib.Core.Bool.{not}

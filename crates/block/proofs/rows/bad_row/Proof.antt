@@ -1,3 +1,4 @@
+-- The rows before row r add up, and row r's sum decides whether it is the first that does not.
 use Prim.Native.Nat.{ℕ, _+_, _-_, _*_, _≤_}
 use mathlib.Core.Path.{_≡_, ap, _∙_}
 use native.Mathlib.Omega.{arith}

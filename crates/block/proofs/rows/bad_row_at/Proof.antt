@@ -1,3 +1,4 @@
+-- As `bad_row`, over the bytes of a block: row r starts at byte p = 8 + 2 r B.
 use Prim.Native.Nat.{ℕ, _+_, _-_, _*_, _≤_}
 use mathlib.Core.Path.{_≡_, refl, _∙_}
 use native.Mathlib.Omega.{arith}

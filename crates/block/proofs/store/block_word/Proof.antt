@@ -1,3 +1,4 @@
+-- Each number of the block by its place: the four of the header, a stored gain, whose index lies inside the gains, or 0.
 use Prim.Native.Nat.{ℕ, _+_, _-_, _*_, _/_, _%_, _<_}
 use mathlib.Core.Path.{sym, ap, _∙_}
 use native.Mathlib.Omega.{arith}

@@ -1,3 +1,4 @@
+-- The bytes of the blocks before block k are the table's; block k adds its 512.
 use Prim.Native.Nat.{_-_, _*_, _≤_}
 use native.Mathlib.Omega.{arith}
 use Rattle.lists.specs.Index.{Filled}

@@ -1,3 +1,4 @@
+-- The first j numbers of the block are in its bytes; then its two checks, which are those of the 508 bytes before them.
 use Prim.Native.Nat.{ℕ, _+_, _-_, _*_, _≤_}
 use mathlib.Core.Path.{_≡_, refl, ap}
 use native.Mathlib.Omega.{arith}

@@ -1,3 +1,4 @@
+-- Both sums compared with the numbers at bytes 508 and 510, one return for each way.
 use native.Mathlib.Omega.{arith}
 use borrow.Author.Tests.{eq-eqb, ne-eqb}
 use Rattle.block.specs.Read.{checksOk}

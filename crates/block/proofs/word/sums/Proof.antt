@@ -1,3 +1,4 @@
+-- The two sums so far are those of the first i bytes, and small enough for 32 bits.
 use Prim.Native.Nat.{ℕ, _+_, _-_, _*_, _%_, _≤_}
 use mathlib.Core.Path.{_≡_, ap, _∙_}
 use native.Mathlib.Nat.{mul-le-mul}

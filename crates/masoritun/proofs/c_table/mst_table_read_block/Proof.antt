@@ -1,3 +1,4 @@
+-- Where the block is told of, its four numbers are left and the word is 0; where it is refused, they stay.
 use mathlib.Core.Path.{_∙_}
 use denote.Ref.{now}
 use Rattle.masoritun.proofs.Told.{block-told, block-refused, block-fits}
