@@ -6,7 +6,8 @@ use mathlib.Core.List.{map}
 use lib.Dec.{lit<}
 use lib.IntN.{negsuc}
 use lib.Ieee.{fin, binary32, ofBits, round, add, mul, div}
-use Rattle.consts.specs.Consts.{Row, decimals, oneF, ln2, cutoffFactor, cutoffTerm, expLowerCutoff, sqrt2, sqrt2Rcp}
+use Rattle.floats.specs.Values.{oneF}
+use Rattle.consts.specs.Consts.{Row, decimals, ln2, cutoffFactor, cutoffTerm, expLowerCutoff, sqrt2, sqrt2Rcp}
 
 -- every row at once: the decimal, rounded once
 pub nearest : map (λ (r : Row). round binary32 (r .0) (r .1) (10 ^ r .2)) decimals ≡ map (λ (r : Row). r .3) decimals

@@ -2,23 +2,8 @@
 use Prim.Native.Nat.{ℕ}
 use mathlib.Core.Bool.{Bool, true, false}
 use mathlib.Core.List.{List, [], _∷_}
-use lib.Ieee.{Float, binary32, ofBits}
-
-abbrev pub f32 : ℕ → Float
-f32 b = ofBits binary32 b
-
--- 0, 1, 2 and 1/2
-abbrev pub zeroF : Float
-zeroF = f32 0
-
-abbrev pub oneF : Float
-oneF = f32 0x3f80_0000
-
-abbrev pub twoF : Float
-twoF = f32 0x4000_0000
-
-abbrev pub halfF : Float
-halfF = f32 0x3f00_0000
+use lib.Ieee.{Float}
+use Rattle.floats.specs.Values.{f32, zeroF, oneF, twoF, halfF, f32Min}
 
 -- ---- exp.rs
 abbrev pub invLog2 : Float
@@ -157,10 +142,6 @@ sinB4 = f32 0x39ff_b307
 
 abbrev pub largeThreshold : Float
 largeThreshold = f32 0x473b_8000
-
--- ---- softmax.rs: `f32::MIN`, the least finite f32
-abbrev pub f32Min : Float
-f32Min = f32 0xff7f_ffff
 
 -- -126.5 and 0.01, of which the cutoff is made
 abbrev pub cutoffFactor : Float

@@ -1,4 +1,4 @@
-// The f32 constants of exp.rs, tanh.rs, erf.rs, sin_cos.rs and softmax.rs, by the Rust's names; a literal that the Rust leaves unnamed has a name here.
+// The f32 constants of exp.rs, tanh.rs, erf.rs and sin_cos.rs, by the Rust's names; a literal that the Rust leaves unnamed has a name here.
 // LOG2_E, LN_2 and SQRT_2 are the decimals of Rust's std::f32::consts.
 
 // exp.rs
@@ -92,6 +92,3 @@ pub const SIN_B2: f32 = 3.3519912511e-02;
 pub const SIN_B4: f32 = 4.8770775902e-04;
 
 pub const LARGE_THRESHOLD: f32 = 48000.0;
-
-// softmax.rs: `f32::MIN`
-pub const F32_MIN: f32 = -340282346638528859811704183484516925440.0;

@@ -1,7 +1,8 @@
 -- erf.rs over one lane, each step rounded once, in the Rust's order. Definitions only.
 use mathlib.Core.Bool.{cond}
 use lib.Ieee.{Float, binary32, add, sub, mul, div, neg, lt}
-use Rattle.consts.specs.Consts.{zeroF, oneF, halfF, erfP, erfA0, erfA1, erfA2, erfA3, erfA4, sqrt2Rcp, sqrt2Pi, geluCube}
+use Rattle.floats.specs.Values.{zeroF, oneF, halfF}
+use Rattle.consts.specs.Consts.{erfP, erfA0, erfA1, erfA2, erfA3, erfA4, sqrt2Rcp, sqrt2Pi, geluCube}
 use Rattle.floats.specs.Float.{mulAdd, absOf}
 use Rattle.exp.specs.Exp.{reducedRangeExpOf}
 use Rattle.tanh.specs.Tanh.{tanhOf}

@@ -8,7 +8,8 @@ use lib.IntN.{pos}
 use lib.Ieee.{Float, nan, inf, fin, binary32, add, mul, sum, lt, le, eq, isNan, ofBits, toBits}
 use lib.Ieee.Bits.{is-true}
 use lib.Ieee.Fits.{add-fits}
-use Rattle.consts.specs.Consts.{zeroF, invLog2, roundingMagic, expOverflow, expUnderflow, expLowerCutoff}
+use Rattle.floats.specs.Values.{zeroF}
+use Rattle.consts.specs.Consts.{invLog2, roundingMagic, expOverflow, expUnderflow, expLowerCutoff}
 use Rattle.floats.specs.Float.{mulAdd}
 use Rattle.floats.specs.Words.{subWord, truncWord, above0}
 use Rattle.floats.proofs.Monotone.{mul-mono-r, add-mono}

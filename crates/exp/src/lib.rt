@@ -2,7 +2,8 @@
 ghost use mathlib.Core.Bool.{false, cond};
 ghost use mathlib.Core.Path.{_≡_};
 ghost use lib.Ieee.{lt, le};
-ghost use Rattle.consts.specs.Consts.{zeroF, expUnderflow, expOverflow};
+ghost use Rattle.floats.specs.Values.{zeroF};
+ghost use Rattle.consts.specs.Consts.{expUnderflow, expOverflow};
 ghost use Rattle.exp.specs.Exp.{iaOf, restOf, polyOf, scaleOf, expOf, reducedRangeExpOf, sigmoidOf, siluOf, swishOf, eluOf};
 use consts::EXP_LOWER_CUTOFF;
 use consts::EXP_OVERFLOW;

@@ -8,7 +8,8 @@ use lib.Dec.{T, eqb, ltb}
 use lib.Ieee.{Float, fin, binary32, round, add, sub, mul, lt, le, ofBits, toSigned}
 use lib.Ieee.Fits.{and-i}
 use lib.Ieee.Scale.{finite}
-use Rattle.consts.specs.Consts.{f32, invLog2, roundingMagic, log2Hi, log2Lo, expLowerCutoff}
+use Rattle.floats.specs.Values.{f32}
+use Rattle.consts.specs.Consts.{invLog2, roundingMagic, log2Hi, log2Lo, expLowerCutoff}
 use Rattle.exp.specs.Exp.{restOf, iaOf}
 use Rattle.floats.specs.Float.{mulAdd}
 use Rattle.floats.specs.Words.{addWord, subWord, shl23, truncWord}

@@ -4,7 +4,8 @@ use mathlib.Core.Path.{_≡_, refl, sym, subst}
 use mathlib.Core.Bool.{Bool, true, false, not, cond}
 use lib.Dec.{T}
 use lib.Ieee.{Float, inf, add, sub, mul, le, lt, isNan, ofBits, toSigned}
-use Rattle.consts.specs.Consts.{f32, zeroF, oneF, expOverflow, expUnderflow, expLowerCutoff}
+use Rattle.floats.specs.Values.{f32, zeroF, oneF}
+use Rattle.consts.specs.Consts.{expOverflow, expUnderflow, expLowerCutoff}
 use Rattle.exp.specs.Exp.{jOf, expOf, reducedRangeExpOf}
 use Rattle.floats.proofs.Order.{le-numbers, le-trans-f, not-le, not-lt}
 use Rattle.floats.proofs.Values.{fin0, fin32}

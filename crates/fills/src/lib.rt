@@ -5,7 +5,7 @@ ghost use mathlib.Core.Path.{_≡_};
 ghost use Prim.Native.Nat.{ℕ, _<_};
 ghost use lib.Ieee.{nan, lt};
 ghost use lib.ListN.{length, getD};
-ghost use Rattle.consts.specs.Consts.{zeroF};
+ghost use Rattle.floats.specs.Values.{zeroF};
 ghost use Rattle.erf.specs.Erf.{erfOf, geluOf, approxGeluOf};
 ghost use Rattle.exp.specs.Exp.{expOf, reducedRangeExpOf, sigmoidOf, siluOf, swishOf, eluOf};
 ghost use Rattle.sin_cos.specs.SinCos.{sinOf, cosOf};

@@ -5,6 +5,9 @@ ghost use lib.Ieee.{binary32, inf, ofBits, toBits};
 ghost use lib.Ieee.Scale.{finite};
 ghost use Rattle.floats.specs.Float.{absOf};
 
+// The least finite f32, Rust's `f32::MIN`.
+pub const F32_MIN: f32 = -340282346638528859811704183484516925440.0;
+
 // +infinity. No constant may hold it.
 pub fn infinity() -> f32
     ensures { λ r. ⌜ r ≡ inf false ⌝ }

@@ -15,7 +15,7 @@ use Rattle.lists.proofs.First.{Passed}
 use Rattle.floats.specs.Float.{finiteAt}
 use Rattle.floats.proofs.Sign.{finite-number}
 use Rattle.floats.proofs.Order.{le-numbers, lt→nle, nlt→le}
-use Rattle.consts.specs.Consts.{zeroF}
+use Rattle.floats.specs.Values.{zeroF}
 use Rattle.min_max.proofs.Fold.{extreme-number}
 use Rattle.sum.specs.declared.SumOp.the-variants.{SumSquare}
 use Rattle.sum.proofs.NoNan.{sum-keeps}

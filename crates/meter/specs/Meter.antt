@@ -11,7 +11,7 @@ use Rattle.answer.specs.Limits.{elementLimit}
 use Rattle.answer.specs.declared.Answer.{Answer}
 use Rattle.answer.specs.declared.Answer.the-variants.{Done, Refused as No}
 use Rattle.answer.specs.declared.Refusal.the-variants.{TooMany, NotFinite, Domain}
-use Rattle.consts.specs.Consts.{zeroF}
+use Rattle.floats.specs.Values.{zeroF}
 use Rattle.min_max.specs.MinMax.{leastFrom, largestFrom}
 use Rattle.floats.specs.Float.{firstNotFinite}
 use Rattle.sum.specs.Sum.{sumFrom}

@@ -10,7 +10,7 @@ use Rattle.answer.specs.Answer.{Test, judged, toldOf, toldWith}
 use Rattle.answer.specs.Limits.{elementLimit}
 use Rattle.answer.specs.declared.Answer.{Answer}
 use Rattle.answer.specs.declared.Refusal.the-variants.{TooMany, Domain}
-use Rattle.consts.specs.Consts.{zeroF}
+use Rattle.floats.specs.Values.{zeroF}
 use Rattle.min_max.specs.declared.Extremes.{Extremes}
 use Rattle.min_max.specs.declared.Extreme.{Extreme}
 

@@ -8,7 +8,8 @@ use lib.IntN.{ℤ, pos, negsuc}
 use lib.Dec.{T, eqb·suc-zero, lit≤}
 use lib.Ieee.{Float, nan, inf, fin, binary32, add, sub, mul, neg, lt, eq, le, fits, isNan, ofBits}
 use lib.Ieee.Scale.{finite}
-use Rattle.consts.specs.Consts.{zeroF, oneF, halfF, erfP, erfA0, erfA1, erfA2, erfA3, erfA4, sqrt2Rcp, sqrt2Pi, geluCube}
+use Rattle.floats.specs.Values.{zeroF, oneF, halfF}
+use Rattle.consts.specs.Consts.{erfP, erfA0, erfA1, erfA2, erfA3, erfA4, sqrt2Rcp, sqrt2Pi, geluCube}
 use Rattle.erf.specs.Erf.{ratioOf, polyOf, sizeOf, erfOf, geluOf, innerOf, approxGeluOf}
 use Rattle.exp.specs.Exp.{reducedRangeExpOf}
 use Rattle.floats.specs.Float.{mulAdd, absOf}

@@ -5,7 +5,7 @@ use mathlib.Core.Bool.{Bool, true, false, cond}
 use lib.Dec.{T}
 use lib.Ieee.{Float, binary32, add, sub, mul, neg, le, fits, isNan, ofBits}
 use lib.Ieee.Scale.{finite}
-use Rattle.consts.specs.Consts.{zeroF, oneF}
+use Rattle.floats.specs.Values.{zeroF, oneF}
 use Rattle.exp.specs.Exp.{expOf, sigmoidOf, siluOf, swishOf, eluOf}
 use Rattle.floats.proofs.NoNan.{mul-number}
 use Rattle.floats.proofs.Order.{not-le}

@@ -10,7 +10,7 @@ use lib.Ieee.{Float, ofBits}
 use lib.Ieee.Fits.{and-l, and-r}
 use lib.Ieee.Scale.{finite}
 use denote.Floats.{passes}
-use Rattle.consts.specs.Consts.{zeroF, oneF}
+use Rattle.floats.specs.Values.{zeroF, oneF}
 use Rattle.erf.specs.Erf.{erfOf}
 use Rattle.exp.specs.Exp.{reducedRangeExpOf, sigmoidOf}
 use Rattle.floats.proofs.Sign.{finite-number}

@@ -10,7 +10,8 @@ use lib.Ieee.{Float, nan, inf, fin, binary32, up, down, add, sub, mul, neg, lt, 
 use lib.Ieee.Fits.{down-pos}
 use lib.Ieee.Nearest.{closest, closest-mono}
 use lib.Ieee.Scale.{finite}
-use Rattle.consts.specs.Consts.{oneF, pi, minusPi, inv2Pi, halfPi, twoPiHi, twoPiLo, sinA3, sinA5, sinB2, sinB4, largeThreshold}
+use Rattle.floats.specs.Values.{oneF}
+use Rattle.consts.specs.Consts.{pi, minusPi, inv2Pi, halfPi, twoPiHi, twoPiLo, sinA3, sinA5, sinB2, sinB4, largeThreshold}
 use Rattle.floats.specs.Float.{mulAdd, absOf, roundEven}
 use Rattle.floats.proofs.Magnitude.{Below, below-fin, below-mono, between-below, round-below, mul-below, add-below, sub-below, div-below}
 use Rattle.floats.proofs.Near.{closest-exact}

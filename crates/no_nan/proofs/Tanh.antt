@@ -6,7 +6,8 @@ use lib.IntN.{negsuc}
 use lib.Dec.{T}
 use lib.Ieee.{Float, nan, inf, fin, binary32, add, sub, mul, neg, le, isNan, ofBits}
 use lib.Ieee.Scale.{finite}
-use Rattle.consts.specs.Consts.{zeroF, oneF, twoF, tanhCutoff, tanhTiny, tanhSmall, tanhP1, tanhP3, tanhP5, tanhP7, tanhP9}
+use Rattle.floats.specs.Values.{zeroF, oneF, twoF}
+use Rattle.consts.specs.Consts.{tanhCutoff, tanhTiny, tanhSmall, tanhP1, tanhP3, tanhP5, tanhP7, tanhP9}
 use Rattle.exp.specs.Exp.{expOf}
 use Rattle.floats.specs.Float.{absOf}
 use Rattle.floats.proofs.Monotone.{add-mono}

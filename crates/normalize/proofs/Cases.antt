@@ -4,7 +4,7 @@ use mathlib.Core.Bool.{true, false}
 use mathlib.Core.List.{[], _∷_}
 use lib.Ieee.{Float, ofBits, mul, add, sub, neg, round, eq}
 use Rattle.lists.specs.Index.{tab}
-use Rattle.consts.specs.Consts.{f32, zeroF, oneF}
+use Rattle.floats.specs.Values.{f32, zeroF, oneF}
 use Rattle.normalize.specs.declared.Settings.{Settings}
 use Rattle.normalize.specs.Normal.{normOf, results}
 

@@ -13,7 +13,7 @@ use Rattle.floats.specs.Float.{finiteAt}
 use Rattle.floats.proofs.NoNan.{add-number, sub-number, mul-number}
 use Rattle.floats.proofs.Sign.{finite-number}
 use Rattle.floats.proofs.Finite.{add-finite, sub-finite, mul-finite}
-use Rattle.consts.specs.Consts.{zeroF, oneF}
+use Rattle.floats.specs.Values.{zeroF, oneF}
 use Rattle.normalize.specs.Normal.{centred, arm1, arm2, arm3, normOf, resultAt, settingsOk, finiteAll, resultNumber}
 use Rattle.normalize.specs.declared.Settings.{Settings}
 

@@ -9,7 +9,7 @@ use lib.Ieee.{Float, nan, binary32, add, sub, mul, eq, isNan}
 use lib.Ieee.Scale.{finite}
 use Rattle.lists.specs.Index.{tab, firstNot}
 use Rattle.floats.specs.Float.{mulAdd, finiteAt}
-use Rattle.consts.specs.Consts.{zeroF, oneF}
+use Rattle.floats.specs.Values.{zeroF, oneF}
 use Rattle.answer.specs.Answer.{Test, judged, whenDone, toldOf}
 use Rattle.answer.specs.Limits.{elementLimit}
 use Rattle.answer.specs.declared.Answer.{Answer}

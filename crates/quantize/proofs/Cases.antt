@@ -2,7 +2,7 @@
 use mathlib.Core.Path.{_≡_, refl}
 use mathlib.Core.List.{List, [], _∷_, map}
 use lib.Ieee.{Float, ofBits, mul, round}
-use Rattle.consts.specs.Consts.{f32, oneF, halfF}
+use Rattle.floats.specs.Values.{f32, oneF, halfF}
 use Rattle.quantize.specs.Code.{heldOf, codeOf}
 
 -- 0.5, 1.5, 2.5, -1, 300

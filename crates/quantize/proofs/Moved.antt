@@ -17,7 +17,7 @@ use Rattle.floats.proofs.Near.{closest-exact}
 use Rattle.floats.proofs.Numbers.{ltb-times}
 use Rattle.floats.proofs.Pattern.{fits-sign}
 use Rattle.floats.proofs.Whole.{round-even-value}
-use Rattle.consts.specs.Consts.{f32, zeroF}
+use Rattle.floats.specs.Values.{f32, zeroF}
 use Rattle.quantize.specs.Code.{heldOf, codeSteps}
 
 -- 256

@@ -2,7 +2,8 @@
 use mathlib.Core.Bool.{cond}
 use lib.Ieee.{Float, binary32, sub, mul, div, lt}
 use Rattle.floats.specs.Float.{mulAdd, mulSubFrom, roundEven}
-use Rattle.consts.specs.Consts.{oneF, pi, minusPi, inv2Pi, halfPi, twoPiHi, twoPiLo, sinA3, sinA5, sinB2, sinB4}
+use Rattle.floats.specs.Values.{oneF}
+use Rattle.consts.specs.Consts.{pi, minusPi, inv2Pi, halfPi, twoPiHi, twoPiLo, sinA3, sinA5, sinB2, sinB4}
 
 -- ---- the Rust's min and max; where neither operand is the lesser, the second
 unfoldable pub minOf : Float → Float → Float

@@ -10,7 +10,7 @@ use lib.ListN.{length, getD}
 use lib.Ieee.{Float, nan, inf, fin, binary32, sub, neg, lt, le, ofBits}
 use lib.Ieee.Scale.{finite}
 use lib.Ieee.Bits.{is-true}
-use Rattle.consts.specs.Consts.{zeroF, f32Min}
+use Rattle.floats.specs.Values.{zeroF, f32Min}
 use Rattle.floats.proofs.Sign.{finite-number}
 use Rattle.floats.proofs.Signed.{minus-inf, at-most→le}
 use Rattle.floats.proofs.Order.{le-refl-f, le-trans-f, lt→le, not-lt, le-not-lt}

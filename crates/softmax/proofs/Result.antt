@@ -13,7 +13,7 @@ use Rattle.answer.specs.declared.Answer.the-variants.{Done, Refused}
 use Rattle.answer.specs.declared.Refusal.the-variants.{TooMany, Domain}
 use Rattle.answer.specs.Limits.{elementLimit}
 use Rattle.answer.proofs.Chain.{opened}
-use Rattle.consts.specs.Consts.{zeroF}
+use Rattle.floats.specs.Values.{zeroF}
 use Rattle.lists.specs.Index.{tab}
 use Rattle.lists.proofs.First.{first-clear}
 use Rattle.softmax.specs.Softmax.{maxOf, expLess, expsOf, sumOf, scaledBy, weightsOf, allMasked, firstOutside, resultOf, inPlaceAnswer}

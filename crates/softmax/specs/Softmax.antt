@@ -10,7 +10,7 @@ use Rattle.answer.specs.Answer.{Test, judged, toldOf, whenDone}
 use Rattle.answer.specs.Limits.{elementLimit}
 use Rattle.answer.specs.declared.Answer.{Answer}
 use Rattle.answer.specs.declared.Refusal.the-variants.{Length, TooMany, Domain, Masked}
-use Rattle.consts.specs.Consts.{zeroF, oneF, f32Min}
+use Rattle.floats.specs.Values.{zeroF, oneF, f32Min}
 use Rattle.exp.specs.Exp.{reducedRangeExpOf}
 use Rattle.lists.specs.Index.{firstNot, tab}
 use Rattle.min_max.specs.MinMax.{largestFrom}

@@ -12,7 +12,7 @@ use lib.Ieee.{Float, nan, inf, binary32, sub, mul, div, le, fits, isNan, ofBits}
 use lib.Ieee.Exact.{HasValue}
 use lib.Ieee.Scale.{finite}
 use Rattle.answer.specs.Limits.{elementLimit}
-use Rattle.consts.specs.Consts.{zeroF, oneF}
+use Rattle.floats.specs.Values.{zeroF, oneF}
 use Rattle.exp.specs.Exp.{reducedRangeExpOf}
 use Rattle.floats.proofs.Order.{le-numbers}
 use Rattle.floats.proofs.Exact.{sub-self-f}

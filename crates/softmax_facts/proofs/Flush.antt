@@ -12,7 +12,7 @@ use lib.Ieee.{Float, nan, inf, fin, binary32, add, mul, div, eq, ne, fits, isNan
 use lib.Ieee.Compare.{differs-from-itself}
 use borrow.Author.Tests.{eqb-true}
 use Rattle.answer.specs.Limits.{elementLimit}
-use Rattle.consts.specs.Consts.{zeroF, oneF}
+use Rattle.floats.specs.Values.{zeroF, oneF}
 use Rattle.lists.specs.Index.{firstNot, tab}
 use Rattle.lists.proofs.First.{first-clear}
 use Rattle.lists.proofs.Tests.{both}

@@ -11,7 +11,7 @@ use lib.Ieee.Fits.{down-pos}
 use lib.Ieee.Scale.{finite}
 use Rattle.floats.proofs.Largest.{fits-between}
 use Rattle.floats.proofs.Signed.{le→⊑}
-use Rattle.consts.specs.Consts.{f32Min}
+use Rattle.floats.specs.Values.{f32Min}
 
 -- (`omega` takes no number of more than 38 digits, so the bound is a variable here)
 module _ (L a d : ℕ) where

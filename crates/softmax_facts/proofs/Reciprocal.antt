@@ -8,7 +8,7 @@ use lib.Pow.{pow-pos}
 use lib.Ieee.{Float, nan, inf, fin, binary32, up, down, round, mul, div, le, ofBits}
 use lib.Ieee.Fits.{down-pos}
 use lib.Ieee.Scale.{finite}
-use Rattle.consts.specs.Consts.{zeroF, oneF}
+use Rattle.floats.specs.Values.{zeroF, oneF}
 use Rattle.floats.proofs.Sign.{hasSign, round-zero}
 use Rattle.floats.proofs.Values.{fin0, fin1}
 use Rattle.floats.proofs.Between.{Between, between-finite}

@@ -13,7 +13,7 @@ use lib.Ieee.{Float, nan, inf, fin, binary32, round, add, le, ofBits}
 use lib.Ieee.Back.{round-whole}
 use lib.Ieee.Exact.{HasValue}
 use lib.Ieee.Scale.{finite}
-use Rattle.consts.specs.Consts.{zeroF, oneF}
+use Rattle.floats.specs.Values.{zeroF, oneF}
 use Rattle.floats.proofs.Sign.{finite-number}
 use Rattle.floats.proofs.Order.{le-trans-f, le-refl-f}
 use Rattle.floats.proofs.Monotone.{add-mono}

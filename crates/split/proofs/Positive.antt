@@ -15,7 +15,7 @@ use lib.Ieee.Fits.{down-pos, div-fits}
 use lib.Ieee.Nearest.{closest, closest-mono}
 use lib.Ieee.Order.{round-mono}
 use lib.Ieee.Scale.{finite}
-use Rattle.consts.specs.Consts.{zeroF, oneF}
+use Rattle.floats.specs.Values.{zeroF, oneF}
 use Rattle.floats.proofs.Exact.{one-mul-f}
 use Rattle.floats.proofs.Signed.{le→⊑}
 use Rattle.floats.proofs.Between.{Between, between-finite}

@@ -10,7 +10,7 @@ use lib.Ieee.{Float, nan, inf, fin, binary32, up, down, mul, le, fits, ofBits}
 use lib.Ieee.Exact.{HasValue}
 use lib.Ieee.Fits.{down-pos, mul-fits}
 use lib.Ieee.Nearest.{closest, closest-mono}
-use Rattle.consts.specs.Consts.{zeroF, oneF}
+use Rattle.floats.specs.Values.{zeroF, oneF}
 use Rattle.floats.specs.Float.{absOf, roundEven}
 use Rattle.floats.proofs.Scaled.{Casts, product, rounded, even-fits, casts}
 use Rattle.floats.proofs.Near.{closest-exact}

@@ -10,7 +10,7 @@ use Rattle.answer.specs.Answer.{Test, judged, whenDone, toldOf}
 use Rattle.answer.specs.Limits.{parts, stepCount, bandLimit}
 use Rattle.answer.specs.declared.Answer.{Answer}
 use Rattle.answer.specs.declared.Refusal.the-variants.{Count, Length, Domain, Masked}
-use Rattle.consts.specs.Consts.{zeroF, oneF}
+use Rattle.floats.specs.Values.{zeroF, oneF}
 use Rattle.floats.specs.Fraction.{frac}
 use Rattle.softmax.specs.Softmax.{firstOutside, allMasked, weightsOf}
 use Rattle.parts.specs.Parts.{gainsOver, distanceOver}

@@ -10,7 +10,7 @@ use lib.Ieee.{Float, inf, binary32, fits, ofBits, add, sub, mul, div, round, lt,
 use lib.Ieee.Scale.{finite}
 use Rattle.answer.specs.Answer.{toldOf, whenDone}
 use Rattle.answer.proofs.Chain.{gives, skip, clear}
-use Rattle.consts.specs.Consts.{f32, zeroF}
+use Rattle.floats.specs.Values.{f32, zeroF}
 use Rattle.exp.specs.Exp.{reducedRangeExpOf}
 use Rattle.lists.specs.Index.{sumTo, tab, firstNot}
 use Rattle.min_max.specs.MinMax.{extremeFrom}

@@ -9,7 +9,7 @@ use lib.Ieee.{Float, nan, le, ofBits}
 use Rattle.answer.specs.declared.Answer.{Answer}
 use Rattle.answer.specs.declared.Answer.the-variants.{Done}
 use Rattle.answer.proofs.Numbers.{told-one}
-use Rattle.consts.specs.Consts.{zeroF}
+use Rattle.floats.specs.Values.{zeroF}
 use Rattle.floats.specs.Fraction.{frac}
 use Rattle.floats.proofs.Near.{Near}
 use Rattle.floats.proofs.Signed.{nonneg-under}

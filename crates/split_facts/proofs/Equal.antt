@@ -10,7 +10,7 @@ use lib.Dec.{T}
 use lib.ListN.{length, getD, replicate, length-replicate, getD-replicate}
 use lib.Ieee.{Float, nan, inf, binary32, mul, div, fits}
 use lib.Ieee.Scale.{finite}
-use Rattle.consts.specs.Consts.{oneF}
+use Rattle.floats.specs.Values.{oneF}
 use Rattle.lists.specs.Index.{tab}
 use Rattle.lists.proofs.Tab.{map-replicate}
 use Rattle.softmax.specs.Softmax.{maxOf, expLess, expsOf, sumOf, weightsOf}

@@ -4,7 +4,7 @@ use mathlib.Core.Bool.{true}
 use mathlib.Core.List.{[]}
 use Rattle.lists.specs.Index.{firstNot}
 use Rattle.answer.specs.Answer.{judged}
-use Rattle.consts.specs.Consts.{zeroF}
+use Rattle.floats.specs.Values.{zeroF}
 use Rattle.sum.specs.Sum.{offsetOk, sumFrom, addUpAnswer, addUpTold}
 use Rattle.sum.specs.declared.SumOp.{SumOp}
 

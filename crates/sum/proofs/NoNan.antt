@@ -18,7 +18,7 @@ use Rattle.floats.proofs.Order.{le-numbers}
 use Rattle.floats.proofs.NoNan.{add-number, sub-number}
 use Rattle.answer.specs.declared.Answer.the-variants.{Done}
 use Rattle.answer.proofs.Chain.{opened}
-use Rattle.consts.specs.Consts.{zeroF}
+use Rattle.floats.specs.Values.{zeroF}
 use Rattle.exp.specs.Exp.{expOf}
 use Rattle.exp_facts.proofs.Facts.{exp-above}
 use Rattle.lists.proofs.Fold.{fold-keeps}

@@ -11,7 +11,7 @@ use Rattle.answer.specs.Answer.{Test, judged, toldOf, toldWith}
 use Rattle.answer.specs.Limits.{elementLimit}
 use Rattle.answer.specs.declared.Answer.{Answer}
 use Rattle.answer.specs.declared.Refusal.the-variants.{TooMany, NotFinite, Domain}
-use Rattle.consts.specs.Consts.{zeroF}
+use Rattle.floats.specs.Values.{zeroF}
 use Rattle.exp.specs.Exp.{expOf}
 use Rattle.sum.specs.declared.SumOp.{SumOp}
 use Rattle.sum.specs.declared.SumOp.the-variants.{Sum, SumSquare, SumAbs, SumSquareSub, SumExpSub}

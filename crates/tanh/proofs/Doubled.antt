@@ -3,7 +3,8 @@ use mathlib.Core.Path.{_≡_, refl}
 use mathlib.Core.Bool.{true, false, true≢false}
 use lib.Ieee.{Float, nan, inf, fin, binary32, mul, lt, le, eq, isNan, ofBits}
 use lib.Ieee.Bits.{is-false}
-use Rattle.consts.specs.Consts.{twoF, expUnderflow, expOverflow, tanhSmall, tanhCutoff}
+use Rattle.floats.specs.Values.{twoF}
+use Rattle.consts.specs.Consts.{expUnderflow, expOverflow, tanhSmall, tanhCutoff}
 use Rattle.floats.proofs.Monotone.{mul-mono-r}
 use Rattle.floats.proofs.Order.{lt-le-trans, le-lt-trans, lt→nle, not-le}
 

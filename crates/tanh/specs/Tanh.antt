@@ -1,7 +1,8 @@
 -- tanh.rs over one lane, each step rounded once, in the Rust's order. Definitions only.
 use mathlib.Core.Bool.{cond}
 use lib.Ieee.{Float, binary32, add, sub, mul, div, neg, le}
-use Rattle.consts.specs.Consts.{zeroF, oneF, twoF, tanhCutoff, tanhTiny, tanhSmall, tanhP1, tanhP3, tanhP5, tanhP7, tanhP9}
+use Rattle.floats.specs.Values.{zeroF, oneF, twoF}
+use Rattle.consts.specs.Consts.{tanhCutoff, tanhTiny, tanhSmall, tanhP1, tanhP3, tanhP5, tanhP7, tanhP9}
 use Rattle.floats.specs.Float.{mulAdd, absOf}
 use Rattle.exp.specs.Exp.{expOf}
 

@@ -8,7 +8,7 @@ use denote.Enum.Declared.{tagOf}
 use lib.Ieee.{Float, lt, le}
 use lib.Ieee.Scale.{finite}
 use Rattle.lists.proofs.Tests.{both}
-use Rattle.consts.specs.Consts.{zeroF}
+use Rattle.floats.specs.Values.{zeroF}
 use Rattle.floats.proofs.Order.{le-not-lt}
 use Rattle.unary.proofs.Op.{the-type}
 use Rattle.unary.specs.Unary.{alsoIn, alphaOk, inDomain}

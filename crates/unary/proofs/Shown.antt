@@ -3,7 +3,7 @@ use mathlib.Core.Path.{_≡_}
 use mathlib.Core.Bool.{true, false, _&&_, false≢true}
 use lib.Ieee.{Float, nan, inf, fin, le}
 use Rattle.lists.proofs.Tests.{both}
-use Rattle.consts.specs.Consts.{zeroF, f32Min}
+use Rattle.floats.specs.Values.{zeroF, f32Min}
 use Rattle.unary.specs.Unary.{inDomain}
 use Rattle.unary.specs.declared.Op.the-variants.{ReducedRangeExp}
 

@@ -10,7 +10,8 @@ use Rattle.answer.specs.Answer.{Test, judged, toldOf, whenDone}
 use Rattle.answer.specs.Limits.{elementLimit}
 use Rattle.answer.specs.declared.Answer.{Answer}
 use Rattle.answer.specs.declared.Refusal.the-variants.{Length, TooMany, NotFinite, Domain}
-use Rattle.consts.specs.Consts.{zeroF, largeThreshold}
+use Rattle.floats.specs.Values.{zeroF}
+use Rattle.consts.specs.Consts.{largeThreshold}
 use Rattle.erf.specs.Erf.{erfOf, geluOf, approxGeluOf}
 use Rattle.exp.specs.Exp.{expOf, reducedRangeExpOf, sigmoidOf, siluOf, swishOf, eluOf}
 use Rattle.floats.specs.Float.{absOf}

@@ -4,12 +4,12 @@ ghost use mathlib.Core.Path.{_≡_};
 ghost use Prim.Native.Nat.{ℕ, _<_};
 ghost use lib.Ieee.{nan, le};
 ghost use lib.ListN.{length, getD};
-ghost use Rattle.consts.specs.Consts.{zeroF, f32Min};
+ghost use Rattle.floats.specs.Values.{zeroF, f32Min};
 ghost use Rattle.unary.specs.Unary.{inDomain};
 ghost use Rattle.unary.specs.declared.Op.the-variants.{ReducedRangeExp, Sin};
 use crate::Op;
 use crate::in_domain;
-use consts::F32_MIN;
+use floats::bits::F32_MIN;
 use floats::scan::any_not_finite;
 
 // From the least f32 to zero: a NaN, an infinity and what is above zero each fail one of the two.

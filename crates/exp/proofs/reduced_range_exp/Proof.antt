@@ -2,7 +2,8 @@ use mathlib.Core.Path.{_≡_, refl}
 use native.Mathlib.Omega.{arith}
 use lib.Ieee.{Float, nan, binary32, add, sub, mul, sum, isNan, lt, le, eq, ofBits}
 use borrow.Author.Needs.{needs}
-use Rattle.consts.specs.Consts.{f32, expLowerCutoff}
+use Rattle.floats.specs.Values.{f32}
+use Rattle.consts.specs.Consts.{expLowerCutoff}
 use Rattle.floats.specs.Words.{addWord, shl23, truncWord}
 use Rattle.floats.proofs.Pattern.{low-zero}
 use Rattle.exp.specs.Exp.{jOf, restOf, polyOf, reducedRangeExpOf}

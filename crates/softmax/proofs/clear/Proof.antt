@@ -5,7 +5,7 @@ use native.Mathlib.Omega.{arith}
 use denote.Ref.{now}
 use lib.Ieee.{nan}
 use lib.ListN.{length}
-use Rattle.consts.specs.Consts.{zeroF}
+use Rattle.floats.specs.Values.{zeroF}
 use Rattle.lists.specs.Index.{Filled}
 use borrow.Author.Needs.{needs}
 use Rattle.softmax.proofs.clear.Statement.{statement}

@@ -5,7 +5,7 @@ use native.Mathlib.Omega.{arith}
 use denote.Ref.{now}
 use lib.Ieee.{nan, binary32, mul, div}
 use lib.ListN.{length, getD}
-use Rattle.consts.specs.Consts.{oneF}
+use Rattle.floats.specs.Values.{oneF}
 use Rattle.lists.specs.Index.{Filled}
 use Rattle.lists.proofs.Tab.{tab-map}
 use borrow.Author.Needs.{needs}

@@ -12,7 +12,7 @@ use lib.Ieee.{Float, binary32, fits}
 use lib.ListN.{length}
 use Rattle.answer.specs.Answer.{judged, isDone}
 use Rattle.answer.proofs.Chain.{breaks, ends}
-use Rattle.consts.specs.Consts.{zeroF, oneF}
+use Rattle.floats.specs.Values.{zeroF, oneF}
 use Rattle.softmax.specs.Softmax.{weightsOf}
 use Rattle.floats.proofs.Each.{Each}
 use Rattle.floats.proofs.Between.{Between}

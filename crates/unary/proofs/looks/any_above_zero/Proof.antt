@@ -3,7 +3,7 @@ use mathlib.Core.Bool.{_&&_}
 use lib.Ieee.{nan, le}
 use lib.ListN.{length, getD}
 use Rattle.lists.proofs.First.{Looked, looked-none, looked-more, looked-end}
-use Rattle.consts.specs.Consts.{zeroF, f32Min}
+use Rattle.floats.specs.Values.{zeroF, f32Min}
 use Rattle.unary.proofs.Shown.{below-zero}
 use borrow.Author.Needs.{needs}
 use Rattle.unary.proofs.looks.any_above_zero.Statement.{statement}
