@@ -3,7 +3,7 @@ use Prim.Native.Nat.{ℕ}
 use mathlib.Core.Bool.{Bool, true, false}
 use mathlib.Core.List.{List, [], _∷_}
 use lib.Ieee.{Float}
-use Rattle.floats.specs.Values.{f32, zeroF, oneF, twoF, halfF, f32Min}
+use Rattle.floats.specs.Values.{f32, zeroF, oneF, twoF, halfF}
 
 -- ---- exp.rs
 abbrev pub invLog2 : Float
@@ -197,7 +197,6 @@ decimals =
     ∷ (false, 33519912511, 12, sinB2)
     ∷ (false, 48770775902, 14, sinB4)
     ∷ (false, 48000, 0, largeThreshold)
-    ∷ (true, 340282346638528859811704183484516925440, 0, f32Min)
     ∷ (true, 1265, 1, cutoffFactor)
     ∷ (false, 1, 2, cutoffTerm)
     ∷ (false, 0, 0, zeroF)

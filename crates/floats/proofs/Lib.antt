@@ -13,6 +13,7 @@ pub mod NotNegative
 pub mod Between
 pub mod FromOne
 pub mod Largest
+pub mod Least
 pub mod Formats
 pub mod Pattern
 pub mod Size

@@ -1,5 +1,4 @@
 pub mod Domain
-pub mod Least
 pub mod Maximum
 pub mod Result
 pub mod Determined

@@ -16,6 +16,7 @@ use Rattle.floats.proofs.Signed.{minus-inf, at-most→le}
 use Rattle.floats.proofs.Order.{le-refl-f, le-trans-f, lt→le, not-lt, le-not-lt}
 use Rattle.floats.proofs.Monotone.{sub-mono}
 use Rattle.floats.proofs.Exact.{sub-self-f}
+use Rattle.floats.proofs.Least.{min-finite}
 use Rattle.min_max.specs.MinMax.{keep, extremeFrom}
 use Rattle.softmax.specs.Softmax.{maxOf, inDomain}
 use Rattle.floats.proofs.Each.{Each, Some, each-first, each-rest, each-cons}
@@ -95,10 +96,6 @@ max-from (x ∷ s) m p d =
         | inr a ↦ inr (suc (a .0), suc-le-suc (a .1), a .2)
       ];
     }
-
-min-finite : T (finite f32Min)
-unfolding ofBits
-min-finite = tt
 
 module _ (s : List Float) (d : Each InDomain s) where
   pub max-is : Max f32Min s (maxOf s)

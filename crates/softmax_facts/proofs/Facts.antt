@@ -23,7 +23,7 @@ use Rattle.lists.proofs.Tab.{tab-map, tab-at, tab-length}
 use Rattle.softmax.specs.Softmax.{maxOf, expLess, expsOf, sumOf, weightsOf}
 use Rattle.softmax.proofs.Maximum.{InDomain, max-is, less-max, masked-minus}
 use Rattle.exp_facts.proofs.Facts.{reduced-between, reduced-zero, reduced-masked}
-use Rattle.softmax_facts.proofs.Least.{min-only}
+use Rattle.floats.proofs.Least.{min-only}
 use Rattle.softmax_facts.proofs.Sum.{countF, count-value, sum-between, sum-from}
 use Rattle.softmax_facts.proofs.Reciprocal.{recip-between, zero-times-recip}
 

@@ -1,4 +1,3 @@
-pub mod Least
 pub mod Sum
 pub mod Reciprocal
 pub mod Facts

@@ -1,17 +1,31 @@
--- Nothing finite below `f32Min` is an f32. Assumes nothing.
+-- `f32Min`, the least finite f32: its digits, the code's decimal, the pattern after it, and that nothing finite below it is an f32. Assumes nothing.
 use mathlib.Core.Path.{_≡_, refl}
 use Prim.Native.Nat.{ℕ, _+_, _*_, _^_, _≤_, _<_}
 use native.Mathlib.Nat.{zero-mul, mul-one, mul-pos}
 use native.Mathlib.Omega.{arith}
 use mathlib.Core.Bool.{true, false}
+use lib.IntN.{pos}
 use lib.Dec.{T, lit≤}
 use lib.Ieee.{Float, nan, inf, fin, binary32, up, down, le, fits, ofBits}
 use lib.Ieee.Back.{whole-unique}
 use lib.Ieee.Fits.{down-pos}
 use lib.Ieee.Scale.{finite}
 use Rattle.floats.proofs.Largest.{fits-between}
 use Rattle.floats.proofs.Signed.{le→⊑}
-use Rattle.floats.specs.Values.{f32Min}
+use Rattle.floats.specs.Values.{f32, f32Min}
+
+pub min-least : (f32Min ≡ fin true 16777215 (pos 104)) × (16777215 * 2 ^ 104 ≡ 340282346638528859811704183484516925440)
+    × (f32 0xff80_0000 ≡ inf true)
+unfolding ofBits
+min-least = (refl, refl, refl)
+
+pub min-fits : T (fits binary32 f32Min)
+unfolding fits ofBits
+min-fits = tt
+
+pub min-finite : T (finite f32Min)
+unfolding ofBits
+min-finite = tt
 
 -- (`omega` takes no number of more than 38 digits, so the bound is a variable here)
 module _ (L a d : ℕ) where
@@ -26,10 +40,6 @@ module _ (L a d : ℕ) where
       let f = simp (zero-mul, mul-one) at h in
       let g = simp (zero-mul, mul-one) at k in
       simp mul-one (omega arith)
-
-min-fits : T (fits binary32 f32Min)
-unfolding fits ofBits
-min-fits = tt
 
 pub min-only : (y : Float) → T (fits binary32 y) → T (finite y) → T (le y f32Min) → y ≡ f32Min
 unfolding ofBits
