@@ -3,7 +3,7 @@ use Prim.Native.Nat.{ℕ}
 use mathlib.Core.Bool.{Bool, true, false}
 use mathlib.Core.List.{List, [], _∷_}
 use lib.Ieee.{Float}
-use Rattle.floats.specs.Values.{f32, zeroF, oneF, twoF, halfF}
+use Rattle.floats.specs.Values.{f32}
 
 -- ---- exp.rs
 abbrev pub invLog2 : Float
@@ -199,8 +199,4 @@ decimals =
     ∷ (false, 48000, 0, largeThreshold)
     ∷ (true, 1265, 1, cutoffFactor)
     ∷ (false, 1, 2, cutoffTerm)
-    ∷ (false, 0, 0, zeroF)
-    ∷ (false, 1, 0, oneF)
-    ∷ (false, 2, 0, twoF)
-    ∷ (false, 5, 1, halfF)
     ∷ []

@@ -8,12 +8,11 @@ use lib.Dec.{T, eqb, ltb}
 use lib.Ieee.{Float, fin, binary32, round, add, sub, mul, lt, le, ofBits, toSigned}
 use lib.Ieee.Fits.{and-i}
 use lib.Ieee.Scale.{finite}
-use Rattle.floats.specs.Values.{f32}
+use Rattle.floats.specs.Values.{f32, zeroF, oneF, thirtyTwoF}
 use Rattle.consts.specs.Consts.{invLog2, roundingMagic, log2Hi, log2Lo, expLowerCutoff}
 use Rattle.exp.specs.Exp.{restOf, iaOf}
 use Rattle.floats.specs.Float.{mulAdd}
 use Rattle.floats.specs.Words.{addWord, subWord, shl23, truncWord}
-use Rattle.floats.proofs.Values.{fin0, fin1, fin32}
 use Rattle.lists.proofs.Tests.{allOf, allBelow, below-at, holds, where-holds}
 use Rattle.exp_facts.proofs.Poly.{restLow, restHigh, polyTop}
 
@@ -55,8 +54,8 @@ large = fin false 1 (pos 48)
 -- what is tested of ReducedRangeExp in cell i
 pub record Reduced (i : ℕ) : Type 0 where
   pub factor-finite : T (finite (factor (steps i)))
-  pub factor-from : T (le fin0 (factor (steps i)))
-  pub to-1 : T (not (eqb i 151)) → T (le (mul binary32 polyTop (factor (steps i))) fin1)
+  pub factor-from : T (le zeroF (factor (steps i)))
+  pub to-1 : T (not (eqb i 151)) → T (le (mul binary32 polyTop (factor (steps i))) oneF)
 
 -- what is tested in cell i
 pub record Cell (i : ℕ) : Type 0 where
@@ -74,24 +73,24 @@ pub record Cell (i : ℕ) : Type 0 where
   pub rest-from : T (le restLow (restOf (lo i) (steps i)))
   pub rest-to : T (le (restOf (hi i) (steps i)) restHigh)
   pub factor1-finite : T (finite (factor1 (steps i)))
-  pub factor1-from : T (le fin0 (factor1 (steps i)))
+  pub factor1-from : T (le zeroF (factor1 (steps i)))
   pub factor2-finite : T (finite (factor2 (steps i)))
-  pub factor2-from : T (le fin0 (factor2 (steps i)))
+  pub factor2-from : T (le zeroF (factor2 (steps i)))
   pub product-finite : T (finite (mul binary32 polyTop (factor1 (steps i))))
   -- the largest result where the cell reaches down to 32, and to 0 but for the cell of 0
-  pub to-32 : T (le (lo i) fin32) → T (le (top i) large)
-  pub to-0 : T (le (lo i) fin0) → T (not (eqb i 151)) → T (le (top i) fin1)
+  pub to-32 : T (le (lo i) thirtyTwoF) → T (le (top i) large)
+  pub to-0 : T (le (lo i) zeroF) → T (not (eqb i 151)) → T (le (top i) oneF)
   -- ReducedRangeExp, where the cell reaches its range
-  pub reduced : T (le expLowerCutoff (hi i)) → T (le (lo i) fin0) → Reduced i
+  pub reduced : T (le expLowerCutoff (hi i)) → T (le (lo i) zeroF) → Reduced i
 
 abbrev inReduced : ℕ → Bool
-inReduced i = le expLowerCutoff (hi i) && le (lo i) fin0
+inReduced i = le expLowerCutoff (hi i) && le (lo i) zeroF
 
 abbrev reducedTests : ℕ → List Bool
 reducedTests i =
     finite (factor (steps i))
-    ∷ le fin0 (factor (steps i))
-    ∷ (not (not (eqb i 151)) || le (mul binary32 polyTop (factor (steps i))) fin1)
+    ∷ le zeroF (factor (steps i))
+    ∷ (not (not (eqb i 151)) || le (mul binary32 polyTop (factor (steps i))) oneF)
     ∷ []
 
 abbrev tests : ℕ → List Bool
@@ -109,12 +108,12 @@ tests i =
     ∷ le restLow (restOf (lo i) (steps i))
     ∷ le (restOf (hi i) (steps i)) restHigh
     ∷ finite (factor1 (steps i))
-    ∷ le fin0 (factor1 (steps i))
+    ∷ le zeroF (factor1 (steps i))
     ∷ finite (factor2 (steps i))
-    ∷ le fin0 (factor2 (steps i))
+    ∷ le zeroF (factor2 (steps i))
     ∷ finite (mul binary32 polyTop (factor1 (steps i)))
-    ∷ (not (le (lo i) fin32) || le (top i) large)
-    ∷ (not (le (lo i) fin0) || (not (not (eqb i 151)) || le (top i) fin1))
+    ∷ (not (le (lo i) thirtyTwoF) || le (top i) large)
+    ∷ (not (le (lo i) zeroF) || (not (not (eqb i 151)) || le (top i) oneF))
     ∷ (not (inReduced i) || allOf (reducedTests i))
     ∷ []
 
@@ -128,7 +127,7 @@ reduced-cell i t =
     record {
       factor-finite = c 0;
       factor-from = c 1;
-      to-1 = where-holds (not (eqb i 151)) (le (mul binary32 polyTop (factor (steps i))) fin1) (c 2);
+      to-1 = where-holds (not (eqb i 151)) (le (mul binary32 polyTop (factor (steps i))) oneF) (c 2);
     }
 
 pub cell : (i : ℕ) → i < 303 → Cell i
@@ -152,9 +151,9 @@ cell i h =
       factor2-finite = c 14;
       factor2-from = c 15;
       product-finite = c 16;
-      to-32 = where-holds (le (lo i) fin32) (le (top i) large) (c 17);
-      to-0 = λ a b. where-holds (not (eqb i 151)) (le (top i) fin1)
-          (where-holds (le (lo i) fin0) (not (not (eqb i 151)) || le (top i) fin1) (c 18) a) b;
+      to-32 = where-holds (le (lo i) thirtyTwoF) (le (top i) large) (c 17);
+      to-0 = λ a b. where-holds (not (eqb i 151)) (le (top i) oneF)
+          (where-holds (le (lo i) zeroF) (not (not (eqb i 151)) || le (top i) oneF) (c 18) a) b;
       reduced = λ a b. reduced-cell i
-          (where-holds (inReduced i) (allOf (reducedTests i)) (c 19) (and-i (le expLowerCutoff (hi i)) (le (lo i) fin0) a b));
+          (where-holds (inReduced i) (allOf (reducedTests i)) (c 19) (and-i (le expLowerCutoff (hi i)) (le (lo i) zeroF) a b));
     }

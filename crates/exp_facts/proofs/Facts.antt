@@ -4,11 +4,10 @@ use mathlib.Core.Path.{_≡_, refl, sym, subst}
 use mathlib.Core.Bool.{Bool, true, false, not, cond}
 use lib.Dec.{T}
 use lib.Ieee.{Float, inf, add, sub, mul, le, lt, isNan, ofBits, toSigned}
-use Rattle.floats.specs.Values.{f32, zeroF, oneF}
+use Rattle.floats.specs.Values.{f32, zeroF, oneF, thirtyTwoF}
 use Rattle.consts.specs.Consts.{expOverflow, expUnderflow, expLowerCutoff}
 use Rattle.exp.specs.Exp.{jOf, expOf, reducedRangeExpOf}
 use Rattle.floats.proofs.Order.{le-numbers, le-trans-f, not-le, not-lt}
-use Rattle.floats.proofs.Values.{fin0, fin32}
 use Rattle.floats.proofs.Between.{Between}
 use Rattle.exp_facts.proofs.Cells.{large}
 use Rattle.exp_facts.proofs.Scaled.{ExpRange, expFrom, reducedFrom, exp-inside, reduced-inside}
@@ -23,7 +22,7 @@ low-range : (x : Float) → ExpRange x zeroF
 unfolding le ofBits
 low-range x = record { from = tt; to-32 = λ g. tt; to-0 = λ g. tt }
 
-no-top : (T (le expOverflow fin32) → ⊥) × (T (le expOverflow fin0) → ⊥) × T (le fin0 (inf false))
+no-top : (T (le expOverflow thirtyTwoF) → ⊥) × (T (le expOverflow zeroF) → ⊥) × T (le zeroF (inf false))
 unfolding le ofBits
 no-top = (λ h. h, λ h. h, tt)
 
@@ -31,8 +30,8 @@ high-range : (x : Float) → T (le expOverflow x) → ExpRange x (inf false)
 high-range x h =
     record {
       from = no-top .2;
-      to-32 = λ g. absurd (no-top .0 (le-trans-f expOverflow x fin32 h g));
-      to-0 = λ g. absurd (no-top .1 (le-trans-f expOverflow x fin0 h g));
+      to-32 = λ g. absurd (no-top .0 (le-trans-f expOverflow x thirtyTwoF h g));
+      to-0 = λ g. absurd (no-top .1 (le-trans-f expOverflow x zeroF h g));
     }
 
 exp-range : (x : Float) → T (not (isNan x)) → ExpRange x (expOf x)
@@ -46,19 +45,16 @@ exp-range x n = go (le x expUnderflow) (le expOverflow x) refl refl
     go false false p q = exp-inside x (not-le x expUnderflow n (numbers .1) p, not-le expOverflow x (numbers .0) n q)
 
 pub exp-above : (x : Float) → T (not (isNan x)) → T (le zeroF (expOf x))
-unfolding ofBits
 exp-above x n = exp-range x n .from
 
 pub exp-number : (x : Float) → T (not (isNan x)) → T (not (isNan (expOf x)))
 exp-number x n = le-numbers zeroF (expOf x) (exp-above x n) .1
 
 pub exp-at-most-0 : (x : Float) → T (le x zeroF) → Between zeroF oneF (expOf x)
-unfolding ofBits
 exp-at-most-0 x h = let r = exp-range x (le-numbers x zeroF h .0) in (r .from, r .to-0 h)
 
-pub exp-at-most-32 : (x : Float) → T (le x fin32) → Between zeroF large (expOf x)
-unfolding ofBits
-exp-at-most-32 x h = let r = exp-range x (le-numbers x fin32 h .0) in (r .from, r .to-32 h)
+pub exp-at-most-32 : (x : Float) → T (le x thirtyTwoF) → Between zeroF large (expOf x)
+exp-at-most-32 x h = let r = exp-range x (le-numbers x thirtyTwoF h .0) in (r .from, r .to-32 h)
 
 -- ---- ReducedRangeExp
 in-range : T (le expUnderflow expLowerCutoff) × T (le zeroF expOverflow) × Between zeroF oneF zeroF
@@ -66,7 +62,7 @@ unfolding le ofBits
 in-range = (tt, tt, (tt, tt))
 
 pub reduced-between : (x : Float) → T (le x zeroF) → Between zeroF oneF (reducedRangeExpOf x)
-unfolding reducedRangeExpOf ofBits
+unfolding reducedRangeExpOf
 reduced-between x h = go (lt x expLowerCutoff) refl
   where
     go : (b : Bool) → lt x expLowerCutoff ≡ b → Between zeroF oneF (cond b zeroF (reducedFrom x (jOf x)))

@@ -7,7 +7,7 @@ use lib.Dec.{T}
 use lib.Ieee.{Float, fin, add, mul, le, ofBits}
 use Rattle.consts.specs.Consts.{expPoly0, expPoly1, expPoly2, expPoly3, expPoly4, expPoly5, expPoly6}
 use Rattle.exp.specs.Exp.{polyOf}
-use Rattle.floats.proofs.Values.{fin0, fin1}
+use Rattle.floats.specs.Values.{zeroF, oneF}
 use Rattle.floats.proofs.Between.{Between, between-wider, Row, rowsOk, fromEnd, toEnd, horner-between}
 
 -- the ends of the rest, and the largest value
@@ -33,20 +33,20 @@ both = rows (row 9 3 expPoly0 ∷ [])
 
 -- for a rest at most 0 the last product is not positive
 abbrev lower : List Row
-lower = rows ((fin true 9 (negsuc 3), fin0, expPoly0) ∷ [])
+lower = rows ((fin true 9 (negsuc 3), zeroF, expPoly0) ∷ [])
 
 rows-ok : Between expPoly6 expPoly6 expPoly6
-    × T (rowsOk expPoly6 expPoly6 restLow restHigh both) × T (le fin0 (fromEnd expPoly6 both)) × T (le (toEnd expPoly6 both) polyTop)
-    × T (rowsOk expPoly6 expPoly6 restLow fin0 lower) × T (le fin0 (fromEnd expPoly6 lower)) × T (le (toEnd expPoly6 lower) fin1)
+    × T (rowsOk expPoly6 expPoly6 restLow restHigh both) × T (le zeroF (fromEnd expPoly6 both)) × T (le (toEnd expPoly6 both) polyTop)
+    × T (rowsOk expPoly6 expPoly6 restLow zeroF lower) × T (le zeroF (fromEnd expPoly6 lower)) × T (le (toEnd expPoly6 lower) oneF)
 unfolding add mul le ofBits
 rows-ok = ((tt, tt), tt, tt, tt, tt, tt, tt)
 
-pub poly-between : (r : Float) → Between restLow restHigh r → Between fin0 polyTop (polyOf r)
+pub poly-between : (r : Float) → Between restLow restHigh r → Between zeroF polyTop (polyOf r)
 poly-between r j =
-    between-wider fin0 (fromEnd expPoly6 both) (toEnd expPoly6 both) polyTop (polyOf r) (rows-ok .2) (rows-ok .3)
+    between-wider zeroF (fromEnd expPoly6 both) (toEnd expPoly6 both) polyTop (polyOf r) (rows-ok .2) (rows-ok .3)
     (horner-between both expPoly6 expPoly6 restLow restHigh expPoly6 r (rows-ok .1) (rows-ok .0) j)
 
-pub poly-at-most-1 : (r : Float) → Between restLow fin0 r → Between fin0 fin1 (polyOf r)
+pub poly-at-most-1 : (r : Float) → Between restLow zeroF r → Between zeroF oneF (polyOf r)
 poly-at-most-1 r j =
-    between-wider fin0 (fromEnd expPoly6 lower) (toEnd expPoly6 lower) fin1 (polyOf r) (rows-ok .5) (rows-ok .6)
-    (horner-between lower expPoly6 expPoly6 restLow fin0 expPoly6 r (rows-ok .4) (rows-ok .0) j)
+    between-wider zeroF (fromEnd expPoly6 lower) (toEnd expPoly6 lower) oneF (polyOf r) (rows-ok .5) (rows-ok .6)
+    (horner-between lower expPoly6 expPoly6 restLow zeroF expPoly6 r (rows-ok .4) (rows-ok .0) j)

@@ -14,13 +14,13 @@ use lib.Ieee.Fits.{add-fits, round-fits, down-pos}
 use lib.Ieee.Scale.{finite}
 use Rattle.consts.specs.Consts.{invLog2, roundingMagic, log2Hi, log2Lo, expOverflow, expUnderflow}
 use Rattle.exp.specs.Exp.{restOf}
+use Rattle.floats.specs.Values.{zeroF}
 use Rattle.floats.specs.Float.{mulAdd}
 use Rattle.floats.proofs.Sign.{finite-number}
 use Rattle.floats.proofs.Signed.{le→⊑}
 use Rattle.floats.proofs.Order.{le-trans-f, le-refl-f, le-total, finite-between}
 use Rattle.floats.proofs.Monotone.{add-mono, mul-mono-r}
 use Rattle.floats.proofs.Line.{on-line}
-use Rattle.floats.proofs.Values.{fin0}
 use Rattle.floats.proofs.Between.{Between, between-wider, add-between}
 use Rattle.exp_facts.proofs.Poly.{restLow, restHigh}
 use Rattle.exp_facts.proofs.Cells.{quotient, steps, lo, hi, Cell}
@@ -49,7 +49,7 @@ in-cells (fin s m e) w v h k =
         )
 
 -- ---- the quotient grows with x
-constants : T (finite invLog2) × T (finite roundingMagic) × T (le fin0 invLog2) × T (finite expUnderflow) × T (finite expOverflow)
+constants : T (finite invLog2) × T (finite roundingMagic) × T (le zeroF invLog2) × T (finite expUnderflow) × T (finite expOverflow)
 unfolding le ofBits
 constants = (tt, tt, tt, tt, tt)
 
@@ -62,6 +62,7 @@ ends = (tt, tt, tt, tt, tt, tt)
 
 quotient-mono : (x y : Float) → T (finite x) → T (finite y) → T (finite (mul binary32 x invLog2)) → T (finite (mul binary32 y invLog2))
     → T (le x y) → T (le (mulAdd x invLog2 roundingMagic) (mulAdd y invLog2 roundingMagic))
+unfolding ofBits
 quotient-mono x y p q a b h =
     add-mono binary32 (mul binary32 x invLog2) (mul binary32 y invLog2) roundingMagic roundingMagic a b (constants .1) (constants .1)
     (mul-mono-r binary32 x y invLog2 p q (constants .0) (constants .2) h) (le-refl-f roundingMagic (finite-number roundingMagic (constants .1)))
@@ -82,6 +83,7 @@ module _ (x : Float) (b : Between expUnderflow expOverflow x) where
   x-finite = finite-between expUnderflow x expOverflow (constants .3) (constants .4) (b .0) (b .1)
 
   product-finite : T (finite (mul binary32 x invLog2))
+  unfolding ofBits
   product-finite =
       finite-between (mul binary32 expUnderflow invLog2) (mul binary32 x invLog2) (mul binary32 expOverflow invLog2) (ends .0) (ends .1)
       (mul-mono-r binary32 expUnderflow x invLog2 (constants .3) x-finite (constants .0) (constants .2) (b .0))

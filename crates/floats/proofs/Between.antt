@@ -4,7 +4,7 @@ use mathlib.Core.Logic.{inl, inr}
 use mathlib.Core.List.{List, [], _∷_}
 use mathlib.Core.Bool.{Bool, true, false, _&&_, cond}
 use lib.Dec.{T}
-use lib.Ieee.{Float, binary32, add, sub, mul, neg, le}
+use lib.Ieee.{Float, binary32, add, sub, mul, neg, le, ofBits}
 use lib.Ieee.Fits.{and-l, and-r}
 use lib.Ieee.Scale.{finite}
 use Rattle.floats.specs.Float.{mulAdd}
@@ -13,7 +13,7 @@ use Rattle.floats.proofs.Signed.{le-neg}
 use Rattle.floats.proofs.Order.{le-trans-f, le-refl-f, le-total, finite-between}
 use Rattle.floats.proofs.Monotone.{add-mono, sub-mono, mul-mono-r, mul-mono-l, mul-anti-l, mul-comm-f}
 use Rattle.floats.proofs.NotNegative.{mul-le}
-use Rattle.floats.proofs.Values.{fin0}
+use Rattle.floats.specs.Values.{zeroF}
 use Rattle.lists.proofs.Tests.{allOf, holds}
 
 abbrev pub Between : Float → Float → Float → Type 0
@@ -57,9 +57,10 @@ cond-between lo hi false y z i j = j
 -- c times r, by the products at the ends of r
 side : (c r a b L H : Float) → T (finite c) → T (finite a) → T (finite b)
     → Between L H (mul binary32 c a) → Between L H (mul binary32 c b) → Between a b r → Between L H (mul binary32 c r)
+unfolding ofBits
 side c r a b L H C A B u v w =
     let R = between-finite a b r A B w in
-    elim (le-total fin0 c (finite-number fin0 tt) (finite-number c C)) [
+    elim (le-total zeroF c (finite-number zeroF tt) (finite-number c C)) [
       | inl p ↦ (
         le-trans-f L (mul binary32 c a) (mul binary32 c r) (u .0) (mul-mono-l binary32 c a r C A R p (w .0)),
         le-trans-f (mul binary32 c r) (mul binary32 c b) H (mul-mono-l binary32 c r b C R B p (w .1)) (v .1),
@@ -98,10 +99,11 @@ mul-between l h a b L H t r ok i j =
     swap r t L H (side r t l h L H (between-finite a b r (c 2) (c 3) j) (c 0) (c 1) (swap l r L H low) (swap h r L H high) i)
 
 -- p up to P, times s
-pub scaled-between : (p P s : Float) → T (finite P) → T (finite s) → T (le fin0 s) → Between fin0 P p
-    → Between fin0 (mul binary32 P s) (mul binary32 p s)
+pub scaled-between : (p P s : Float) → T (finite P) → T (finite s) → T (le zeroF s) → Between zeroF P p
+    → Between zeroF (mul binary32 P s) (mul binary32 p s)
+unfolding ofBits
 scaled-between p P s F G z b =
-    let K = between-finite fin0 P p tt F b in
+    let K = between-finite zeroF P p tt F b in
     (mul-le binary32 p s K G (b .0) z, mul-mono-r binary32 p P s K F G z (b .1))
 
 -- ---- polynomials, from the highest coefficient down

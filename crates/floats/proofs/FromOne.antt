@@ -6,7 +6,7 @@ use native.Mathlib.Omega.{arith}
 use mathlib.Core.Bool.{Bool, true, false}
 use lib.IntN.{ℤ, pos}
 use lib.Dec.{T, eqb·suc-zero, lit≤}
-use lib.Ieee.{Float, nan, inf, fin, binary32, up, down, add, div, le}
+use lib.Ieee.{Float, nan, inf, fin, binary32, up, down, add, div, le, ofBits}
 use lib.Ieee.Fits.{down-pos}
 use lib.Ieee.Scale.{finite}
 use Rattle.floats.proofs.Sign.{hasSign, round-has, finite-number}
@@ -15,40 +15,42 @@ use Rattle.floats.proofs.NotNegative.{plus-le}
 use Rattle.floats.proofs.Order.{le-trans-f, le-refl-f}
 use Rattle.floats.proofs.Monotone.{add-mono}
 use Rattle.floats.proofs.Magnitude.{div-below, below-between}
-use Rattle.floats.proofs.Values.{fin0, fin1}
+use Rattle.floats.specs.Values.{zeroF, oneF}
 use Rattle.floats.proofs.Between.{Between}
 
-ones : T (le fin1 (add binary32 fin0 fin1)) × T (le fin1 (add binary32 fin1 fin0))
-unfolding add le
+ones : T (le oneF (add binary32 zeroF oneF)) × T (le oneF (add binary32 oneF zeroF))
+unfolding add le ofBits
 ones = (tt, tt)
 
 -- plus 1, an infinity included
-finite-one : (x : Float) → T (finite x) → T (le fin0 x) → T (le fin1 (add binary32 x fin1)) × T (le fin1 (add binary32 fin1 x))
+finite-one : (x : Float) → T (finite x) → T (le zeroF x) → T (le oneF (add binary32 x oneF)) × T (le oneF (add binary32 oneF x))
+unfolding ofBits
 finite-one x F h =
-    let same = le-refl-f fin1 (finite-number fin1 tt) in (
-      le-trans-f fin1 (add binary32 fin0 fin1) (add binary32 x fin1) (ones .0) (add-mono binary32 fin0 x fin1 fin1 tt F tt tt h same),
-      le-trans-f fin1 (add binary32 fin1 fin0) (add binary32 fin1 x) (ones .1) (add-mono binary32 fin1 fin1 fin0 x tt tt tt F same h),
+    let same = le-refl-f oneF (finite-number oneF tt) in (
+      le-trans-f oneF (add binary32 zeroF oneF) (add binary32 x oneF) (ones .0) (add-mono binary32 zeroF x oneF oneF tt F tt tt h same),
+      le-trans-f oneF (add binary32 oneF zeroF) (add binary32 oneF x) (ones .1) (add-mono binary32 oneF oneF zeroF x tt tt tt F same h),
     )
 
-pub plus-one : (x : Float) → T (le fin0 x) → T (le fin1 (add binary32 x fin1)) × T (le fin1 (add binary32 fin1 x))
-unfolding le add
+pub plus-one : (x : Float) → T (le zeroF x) → T (le oneF (add binary32 x oneF)) × T (le oneF (add binary32 oneF x))
+unfolding le add ofBits
 plus-one nan h = absurd h
 plus-one (inf true) h = absurd h
 plus-one (inf false) h = (tt, tt)
 plus-one (fin s m e) h = finite-one (fin s m e) tt h
 
 -- ---- 1 over what is 1 at least
-pub no-sign : (t : Bool) (n : ℕ) (d : ℤ) → T (le fin1 (fin t n d)) → (t ≡ false) × (n ≡ suc (n - 1))
-no-sign true n d h = absurd (omega (arith, simp zero-mul at (le→⊑ fin1 (fin true n d) tt tt h), down-pos d))
-no-sign false zero d h = absurd (omega (arith, simp zero-mul at (le→⊑ fin1 (fin false zero d) tt tt h), down-pos d))
+pub no-sign : (t : Bool) (n : ℕ) (d : ℤ) → T (le oneF (fin t n d)) → (t ≡ false) × (n ≡ suc (n - 1))
+unfolding ofBits
+no-sign true n d h = absurd (omega (arith, simp zero-mul at (le→⊑ oneF (fin true n d) tt tt h), down-pos d))
+no-sign false zero d h = absurd (omega (arith, simp zero-mul at (le→⊑ oneF (fin false zero d) tt tt h), down-pos d))
 no-sign false (suc n) d h = (refl, omega arith)
 
-clear-over : (n : ℕ) (d : ℤ) → T (hasSign false (div binary32 fin1 (fin false (suc n) d)))
-unfolding div
+clear-over : (n : ℕ) (d : ℤ) → T (hasSign false (div binary32 oneF (fin false (suc n) d)))
+unfolding div ofBits
 clear-over n d = rw (eqb·suc-zero n) (round-has binary32 false (1 * up (pos 0) * down d) (suc n * up d * down (pos 0)))
 
-pub one-over-sign : (y : Float) → T (le fin1 y) → T (hasSign false (div binary32 fin1 y))
-unfolding div le
+pub one-over-sign : (y : Float) → T (le oneF y) → T (hasSign false (div binary32 oneF y))
+unfolding div le ofBits
 one-over-sign nan h = absurd h
 one-over-sign (inf true) h = absurd h
 one-over-sign (inf false) h = tt
@@ -56,8 +58,9 @@ one-over-sign (fin t n d) h =
     let k = no-sign t n d h in
     rw (k .0, k .1) (clear-over (n - 1) d)
 
-pub one-over : (y : Float) → T (le fin1 y) → Between fin0 fin1 (div binary32 fin1 y)
+pub one-over : (y : Float) → T (le oneF y) → Between zeroF oneF (div binary32 oneF y)
+unfolding ofBits
 one-over y h = (
-  plus-le (div binary32 fin1 y) (one-over-sign y h),
-  below-between 0 (div binary32 fin1 y) (div-below binary32 0 fin1 y (lit≤ tt) (lit≤ tt) h) .1,
+  plus-le (div binary32 oneF y) (one-over-sign y h),
+  below-between 0 (div binary32 oneF y) (div-below binary32 0 oneF y (lit≤ tt) (lit≤ tt) h) .1,
 )

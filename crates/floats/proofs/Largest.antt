@@ -8,14 +8,14 @@ use mathlib.Core.Bool.{Bool, true, false}
 use lib.IntN.{ℤ, pos, negsuc}
 use lib.Dec.{T, eqb·suc-zero}
 use lib.Pow.{pow-add, pow-pos, pow-mono}
-use lib.Ieee.{Float, nan, inf, fin, binary32, up, down, unlike, round, neg, div, le, fits}
+use lib.Ieee.{Float, nan, inf, fin, binary32, up, down, unlike, round, neg, div, le, fits, ofBits}
 use lib.Ieee.Fits.{up-pos, down-pos}
 use lib.Ieee.Scale.{finite}
 use Rattle.floats.specs.Fraction.{Frac}
 use Rattle.floats.proofs.Pattern.{fits-sign}
 use Rattle.floats.proofs.Signed.{le→⊑, ⊑→le, Rounds, rounded, rounds-mono}
 use Rattle.floats.proofs.Exact.{down-low, rounds-self}
-use Rattle.floats.proofs.Values.{fin1, minus1, least, largest}
+use Rattle.floats.specs.Values.{oneF, minusOneF, f32Min, f32Max}
 use Rattle.floats.proofs.FromOne.{no-sign}
 use Rattle.floats.proofs.Between.{Between, between-finite}
 
@@ -55,7 +55,8 @@ few m (pos k) d v = elim (decLe k 104) [
         let l : m * 2 ^ j < 2 ^ 24 = lt-of-mul-lt-mul-right (2 ^ 104) (lt-of-le-of-lt (le-of-eq (sym w)) v) in
         le-trans (le-of-eq w) (le-trans (mul-le-mul (under (m * 2 ^ j) l) (le-refl (2 ^ 104))) (le-of-eq (sym (mul-one (16777215 * 2 ^ 104)))))
 
-pub fits-between : (x : Float) → T (fits binary32 x) → T (finite x) → Between least largest x
+pub fits-between : (x : Float) → T (fits binary32 x) → T (finite x) → Between f32Min f32Max x
+unfolding ofBits
 fits-between nan f F = absurd F
 fits-between (inf s) f F = absurd F
 fits-between (fin s zero e) f F = size-between 16777215 104 s zero e (simp zero-mul Prim.Native.Nat.zero-le)
@@ -82,18 +83,18 @@ round-within false a c m e C f h =
 over-pos : (n : ℕ) (d e : ℤ) → 0 < suc n * up d * down e
 over-pos n d e = mul-pos (mul-pos (zero-lt-suc n) (up-pos d)) (down-pos e)
 
-quotient-shrinks : (s : Bool) (m : ℕ) (e : ℤ) (n : ℕ) (d : ℤ) → T (fits binary32 (fin s m e)) → T (le fin1 (fin false (suc n) d))
+quotient-shrinks : (s : Bool) (m : ℕ) (e : ℤ) (n : ℕ) (d : ℤ) → T (fits binary32 (fin s m e)) → T (le oneF (fin false (suc n) d))
     → T (finite (div binary32 (fin s m e) (fin false (suc n) d)))
-unfolding div
+unfolding div ofBits
 quotient-shrinks s m e n d f h =
-    let l : down d ≤ suc n * up d = omega (arith, simp units at (le→⊑ fin1 (fin false (suc n) d) tt tt h)) in
+    let l : down d ≤ suc n * up d = omega (arith, simp units at (le→⊑ oneF (fin false (suc n) d) tt tt h)) in
     rw (eqb·suc-zero n)
     (between-finite (fin true m e) (fin false m e) (round binary32 (unlike s false) (m * up e * down d) (suc n * up d * down e)) tt tt
     (round-within (unlike s false) (m * up e * down d) (suc n * up d * down e) m e (over-pos n d e) (fits-sign binary32 s false m e f)
     (le-trans (mul-le-mul (mul-le-mul (le-refl (m * up e)) l) (le-refl (down e))) (le-of-eq (mul-assoc (m * up e) (suc n * up d) (down e))))))
 
-pub div-finite : (x y : Float) → T (fits binary32 x) → T (finite x) → T (le fin1 y) → T (finite (div binary32 x y))
-unfolding div le
+pub div-finite : (x y : Float) → T (fits binary32 x) → T (finite x) → T (le oneF y) → T (finite (div binary32 x y))
+unfolding div le ofBits
 div-finite nan y f F h = absurd F
 div-finite (inf s) y f F h = absurd F
 div-finite (fin s m e) nan f F h = absurd h
@@ -105,8 +106,8 @@ div-finite (fin s m e) (fin t n d) f F h =
 -- x from -y to y
 quotient-unit : (s : Bool) (m : ℕ) (e : ℤ) (n : ℕ) (d : ℤ) → T (le (fin true (suc n) d) (fin s m e))
     → T (le (fin s m e) (fin false (suc n) d))
-    → Between minus1 fin1 (div binary32 (fin s m e) (fin false (suc n) d))
-unfolding div
+    → Between minusOneF oneF (div binary32 (fin s m e) (fin false (suc n) d))
+unfolding div ofBits
 quotient-unit s m e n d h k =
     rw (eqb·suc-zero n)
     (round-within (unlike s false) (m * up e * down d) (suc n * up d * down e) 1 (pos 0) (over-pos n d e) (unfold fits in tt)
@@ -117,7 +118,7 @@ quotient-unit s m e n d h k =
     size true h k = omega (arith, simp zero-mul at (le→⊑ (fin true (suc n) d) (fin true m e) tt tt h))
     size false h k = omega (arith, simp zero-mul at (le→⊑ (fin false m e) (fin false (suc n) d) tt tt k))
 
-pub div-unit : (x y : Float) → T (finite y) → T (le fin1 y) → Between (neg y) y x → Between minus1 fin1 (div binary32 x y)
+pub div-unit : (x y : Float) → T (finite y) → T (le oneF y) → Between (neg y) y x → Between minusOneF oneF (div binary32 x y)
 unfolding le neg
 div-unit x nan G h b = absurd G
 div-unit x (inf t) G h b = absurd G

@@ -7,25 +7,26 @@ use native.Mathlib.Nat.{zero-mul, mul-one, one-mul, zero-add, sub-zero, mul-pos,
 use native.Mathlib.Omega.{arith}
 use lib.IntN.{ℤ}
 use lib.Dec.{T}
-use lib.Ieee.{Float, nan, inf, fin, Format, up, down, sum, sub, mul, lt, fits}
+use lib.Ieee.{Float, nan, inf, fin, Format, up, down, sum, sub, mul, lt, fits, ofBits}
 use lib.Ieee.Fits.{down-pos}
 use borrow.Author.Tests.{lt-ltb}
 use Rattle.floats.specs.Float.{absOf}
 use Rattle.floats.proofs.Exact.{round-self, zero-unique, sub-self-f}
 use Rattle.floats.proofs.Pattern.{fits-sign}
-use Rattle.floats.proofs.Values.{fin0}
+use Rattle.floats.specs.Values.{zeroF}
 
 -- 0 - x for an x with a minus sign is its size
-less-minus : (f : Format) (m : ℕ) (e : ℤ) → T (fits f (fin true m e)) → sub f fin0 (fin true m e) ≡ fin false m e
-unfolding sub sum
+less-minus : (f : Format) (m : ℕ) (e : ℤ) → T (fits f (fin true m e)) → sub f zeroF (fin true m e) ≡ fin false m e
+unfolding sub sum ofBits
 less-minus f m e F = simp (zero-mul, zero-add, mul-one, one-mul) (round-self f false m e (fits-sign f true false m e F))
 
 -- for one with a plus sign it is -x, but for +0, which it is itself
-plus-zero : (f : Format) (m : ℕ) (e : ℤ) → T (fits f (fin false m e)) → m * up e ≡ 0 → sub f fin0 (fin false m e) ≡ fin false m e
-plus-zero f m e F z = subst (λ (x : Float). sub f fin0 x ≡ x) (sym (zero-unique f false m e F z)) (sub-self-f f fin0 tt)
+plus-zero : (f : Format) (m : ℕ) (e : ℤ) → T (fits f (fin false m e)) → m * up e ≡ 0 → sub f zeroF (fin false m e) ≡ fin false m e
+unfolding ofBits
+plus-zero f m e F z = subst (λ (x : Float). sub f zeroF x ≡ x) (sym (zero-unique f false m e F z)) (sub-self-f f zeroF tt)
 
-plus-above : (f : Format) (m : ℕ) (e : ℤ) → T (fits f (fin false m e)) → 0 < m * up e → sub f fin0 (fin false m e) ≡ fin true m e
-unfolding sub sum
+plus-above : (f : Format) (m : ℕ) (e : ℤ) → T (fits f (fin false m e)) → 0 < m * up e → sub f zeroF (fin false m e) ≡ fin true m e
+unfolding sub sum ofBits
 plus-above f m e F p = simp (zero-mul, one-mul, mul-one, sub-zero, lt-ltb 0 (m * up e) p) (round-self f true m e (fits-sign f false true m e F))
 
 -- -x is below x
@@ -36,16 +37,16 @@ above-its-minus m e p =
     lt-ltb 0 (m * up e * down e + m * up e * down e) (omega arith)
 
 -- the two ends of `abs`
-pub size-then : (f : Format) (x : Float) → T (fits f x) → lt (sub f fin0 x) x ≡ true → x ≡ absOf x
-unfolding sub lt
+pub size-then : (f : Format) (x : Float) → T (fits f x) → lt (sub f zeroF x) x ≡ true → x ≡ absOf x
+unfolding sub lt ofBits
 size-then f nan F h = refl
 size-then f (inf true) F h = absurd (false≢true h)
 size-then f (inf false) F h = refl
 size-then f (fin false m e) F h = refl
 size-then f (fin true m e) F h = absurd (false≢true (rw (less-minus f m e F) at h))
 
-pub size-else : (f : Format) (x : Float) → T (fits f x) → lt (sub f fin0 x) x ≡ false → sub f fin0 x ≡ absOf x
-unfolding sub lt
+pub size-else : (f : Format) (x : Float) → T (fits f x) → lt (sub f zeroF x) x ≡ false → sub f zeroF x ≡ absOf x
+unfolding sub lt ofBits
 size-else f nan F h = refl
 size-else f (inf true) F h = refl
 size-else f (inf false) F h = absurd (true≢false h)

@@ -61,7 +61,6 @@ pub each-number : (s : List Float) → Passed (finiteAt s) (length s) → (i : �
 each-number s p i h = finite-number _ (subst T (sym (p i h)) tt)
 
 next-parts : (m : Meter) (s : List Float) → Accepted m s → Sound (nextOf m s)
-unfolding ofBits
 next-parts m s a =
     let p = sound-parts m (subst T (sym (a .sound)) tt) in
     let number = each-number s (a .each-finite) in

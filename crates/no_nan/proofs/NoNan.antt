@@ -10,11 +10,10 @@ use lib.Ieee.{Float, ofBits}
 use lib.Ieee.Fits.{and-l, and-r}
 use lib.Ieee.Scale.{finite}
 use denote.Floats.{passes}
-use Rattle.floats.specs.Values.{zeroF, oneF}
+use Rattle.floats.specs.Values.{zeroF, oneF, minusOneF}
 use Rattle.erf.specs.Erf.{erfOf}
 use Rattle.exp.specs.Exp.{reducedRangeExpOf, sigmoidOf}
 use Rattle.floats.proofs.Sign.{finite-number}
-use Rattle.floats.proofs.Values.{minus1}
 use Rattle.floats.proofs.Between.{between-finite}
 use Rattle.tanh.specs.Tanh.{tanhOf}
 use Rattle.unary.specs.Unary.{evalOf, alsoIn}
@@ -39,9 +38,9 @@ module _ (op : Op) (x : Float) (g : Given op x) where
   also = and-r (finite x) (alsoIn op x) (passes _ (g .inside))
 
 -- ---- each operator
-ends : T (finite zeroF) × T (finite oneF)
+ends : T (finite zeroF) × T (finite oneF) × T (finite minusOneF)
 unfolding ofBits
-ends = (tt, tt)
+ends = (tt, tt, tt)
 
 pub stays-finite : (op : Op) (x : Float) → Given op x → T (alphaFits op) → T (staysFinite op) → T (finite (evalOf op x))
 stays-finite Exp x g a s = absurd s
@@ -51,8 +50,8 @@ stays-finite Sigmoid x g a s = between-finite zeroF oneF (sigmoidOf x) (ends .0)
 stays-finite Silu x g a s = silu-finite x (g .value) (is-finite Silu x g)
 stays-finite (Swish alpha) x g a s = swish-finite alpha x (passes _ (g .alpha)) (g .value) (is-finite (Swish alpha) x g)
 stays-finite (Elu alpha) x g a s = elu-finite alpha x a (passes _ (g .alpha)) (is-finite (Elu alpha) x g)
-stays-finite Tanh x g a s = between-finite minus1 oneF (tanhOf x) tt (ends .1) (tanh-between x (is-number Tanh x g))
-stays-finite Erf x g a s = between-finite minus1 oneF (erfOf x) tt (ends .1) (erf-between x (is-number Erf x g))
+stays-finite Tanh x g a s = between-finite minusOneF oneF (tanhOf x) (ends .2) (ends .1) (tanh-between x (is-number Tanh x g))
+stays-finite Erf x g a s = between-finite minusOneF oneF (erfOf x) (ends .2) (ends .1) (erf-between x (is-number Erf x g))
 stays-finite Gelu x g a s = gelu-finite x (g .value) (is-finite Gelu x g)
 stays-finite ApproxGelu x g a s = approx-gelu-finite x (g .value) (is-finite ApproxGelu x g)
 stays-finite Sin x g a s = sin-finite x (is-finite Sin x g) (also Sin x g)

@@ -10,7 +10,7 @@ use lib.Ieee.{Float, nan, inf, fin, binary32, up, down, add, sub, mul, neg, lt, 
 use lib.Ieee.Fits.{down-pos}
 use lib.Ieee.Nearest.{closest, closest-mono}
 use lib.Ieee.Scale.{finite}
-use Rattle.floats.specs.Values.{oneF}
+use Rattle.floats.specs.Values.{zeroF, oneF}
 use Rattle.consts.specs.Consts.{pi, minusPi, inv2Pi, halfPi, twoPiHi, twoPiLo, sinA3, sinA5, sinB2, sinB4, largeThreshold}
 use Rattle.floats.specs.Float.{mulAdd, absOf, roundEven}
 use Rattle.floats.proofs.Magnitude.{Below, below-fin, below-mono, between-below, round-below, mul-below, add-below, sub-below, div-below}
@@ -19,7 +19,6 @@ use Rattle.floats.proofs.NotNegative.{square-le, add-le, mul-le}
 use Rattle.floats.proofs.Order.{le-trans-f, lt→le}
 use Rattle.floats.proofs.Sign.{finite-number}
 use Rattle.floats.proofs.Signed.{⊑→le, le-neg}
-use Rattle.floats.proofs.Values.{fin0, fin1}
 use Rattle.floats.proofs.FromOne.{plus-one}
 use Rattle.floats.proofs.Between.{Between, between-wider, box, mul-between}
 use Rattle.sin_cos.specs.SinCos.{minOf, maxOf, turnsOf, reducedOf, foldHigh, foldLow, foldOf, numerator, denominator, ratioOf, sinOf, cosOf}
@@ -53,8 +52,8 @@ record Constants : Type 0 where
   b2-size : Below 0 sinB2
   b4-size : Below 0 sinB4
   one-size : Below 0 oneF
-  b2-above : T (le fin0 sinB2)
-  b4-above : T (le fin0 sinB4)
+  b2-above : T (le zeroF sinB2)
+  b4-above : T (le zeroF sinB4)
 
 trig : Constants
 unfolding le ofBits
@@ -130,8 +129,7 @@ fold-below x h =
     (fold-low-below 20 (foldHigh x) (lit≤ tt) (lit≤ tt) (fold-high-below 19 x (lit≤ tt) (lit≤ tt) h))
 
 -- ---- the rational approximation: its denominator is 1 at least
-under : (q : Float) → Below 44 q → T (le fin0 q) → T (le fin1 (denominator q))
-unfolding ofBits
+under : (q : Float) → Below 44 q → T (le zeroF q) → T (le oneF (denominator q))
 under q h z =
     let p = mul binary32 q sinB4 in
     let P = mul-below binary32 44 0 44 q sinB4 (lit≤ tt) (lit≤ tt) h (trig .b4-size) in
@@ -143,7 +141,7 @@ under q h z =
     plus-one (mul binary32 q b) (mul-le binary32 q b Q (below-fin 45 b B) z u) .0
 
 ratio-below : (x : Float) → Below 22 x → Below 112 (ratioOf x)
-unfolding ratioOf
+unfolding ratioOf ofBits
 ratio-below x h =
     let q = mul binary32 x x in
     let Q = mul-below binary32 22 22 44 x x (lit≤ tt) (lit≤ tt) h h in

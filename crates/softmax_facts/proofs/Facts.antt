@@ -23,9 +23,10 @@ use Rattle.lists.proofs.Tab.{tab-map, tab-at, tab-length}
 use Rattle.softmax.specs.Softmax.{maxOf, expLess, expsOf, sumOf, weightsOf}
 use Rattle.softmax.proofs.Maximum.{InDomain, max-is, less-max, masked-minus}
 use Rattle.exp_facts.proofs.Facts.{reduced-between, reduced-zero, reduced-masked}
+use Rattle.floats.proofs.FromOne.{one-over}
 use Rattle.floats.proofs.Least.{min-only}
 use Rattle.softmax_facts.proofs.Sum.{countF, count-value, sum-between, sum-from}
-use Rattle.softmax_facts.proofs.Reciprocal.{recip-between, zero-times-recip}
+use Rattle.softmax_facts.proofs.Reciprocal.{zero-times-recip}
 
 -- (`Each P s`: every element of s has P. `Some P s`: some element has it. `countF n`: n as an f32.)
 pub record SoftmaxFacts (s : List Float) : Type 0 where
@@ -136,7 +137,7 @@ module _ (s : List Float) (I : Input s) where
       let c = div binary32 oneF (sumOf (expsOf s)) in
       let b = exps-between i (subst (λ n. i < n) (sym (exps-length s)) l) in
       subst (Between zeroF oneF) (sym (weights-at s i l))
-      (mul-between zeroF oneF zeroF oneF zeroF oneF e c unit-box b (recip-between (sumOf (expsOf s)) sum-one))
+      (mul-between zeroF oneF zeroF oneF zeroF oneF e c unit-box b (one-over (sumOf (expsOf s)) sum-one))
 
   masked-zero : (i : ℕ) → i < length s → getD s i nan ≡ inf true → getD (weightsOf s) i nan ≡ zeroF
   masked-zero i h e =

@@ -1,4 +1,4 @@
--- 1 divided by what is 1 at least lies from +0 to 1, and +0 times it is +0. Assumes nothing.
+-- +0 times 1 over what is 1 at least is +0. Assumes nothing.
 use mathlib.Core.Path.{_≡_, ap, _∙_}
 use Prim.Native.Nat.{ℕ, _*_}
 use native.Mathlib.Nat.{zero-mul, mul-pos}
@@ -10,8 +10,7 @@ use lib.Ieee.Fits.{down-pos}
 use lib.Ieee.Scale.{finite}
 use Rattle.floats.specs.Values.{zeroF, oneF}
 use Rattle.floats.proofs.Sign.{hasSign, round-zero}
-use Rattle.floats.proofs.Values.{fin0, fin1}
-use Rattle.floats.proofs.Between.{Between, between-finite}
+use Rattle.floats.proofs.Between.{between-finite}
 use Rattle.floats.proofs.FromOne.{one-over-sign, one-over}
 
 -- +0 times a finite value with a plus sign
@@ -24,11 +23,6 @@ zero-times (fin false n d) f h =
     ap (λ (a : ℕ). round binary32 false a (1 * down d)) (zero-mul (n * up d))
     ∙ round-zero binary32 false (1 * down d) (mul-pos (pow-pos 0) (down-pos d))
 
-module _ (s : Float) (h : T (le oneF s)) where
-  pub recip-between : Between zeroF oneF (div binary32 oneF s)
-  unfolding ofBits
-  recip-between = one-over s h
-
-  pub zero-times-recip : mul binary32 zeroF (div binary32 oneF s) ≡ zeroF
-  unfolding ofBits
-  zero-times-recip = zero-times (div binary32 oneF s) (between-finite fin0 fin1 (div binary32 oneF s) tt tt (one-over s h)) (one-over-sign s h)
+pub zero-times-recip : (s : Float) → T (le oneF s) → mul binary32 zeroF (div binary32 oneF s) ≡ zeroF
+unfolding ofBits
+zero-times-recip s h = zero-times (div binary32 oneF s) (between-finite zeroF oneF (div binary32 oneF s) tt tt (one-over s h)) (one-over-sign s h)

@@ -19,12 +19,11 @@ use Rattle.floats.specs.Values.{zeroF, oneF}
 use Rattle.floats.proofs.Exact.{one-mul-f}
 use Rattle.floats.proofs.Signed.{le→⊑}
 use Rattle.floats.proofs.Between.{Between, between-finite}
-use Rattle.floats.proofs.Values.{fin1}
+use Rattle.floats.proofs.FromOne.{one-over}
 use Rattle.lists.proofs.Sum.{sum-term}
 use Rattle.lists.proofs.Tab.{tab-map, tab-at, tab-length}
 use Rattle.softmax.specs.Softmax.{expsOf, sumOf, weightsOf}
 use Rattle.softmax_facts.proofs.Facts.{Input, SoftmaxFacts, softmax-facts, exps-length, weights-at, weights-length}
-use Rattle.softmax_facts.proofs.Reciprocal.{recip-between}
 use Rattle.softmax_facts.proofs.Sum.{countF, count-finite}
 use Rattle.floats.proofs.Order.{finite-between}
 use Rattle.answer.specs.Limits.{stepCount}
@@ -52,20 +51,20 @@ least-is : leastF ≡ round binary32 false 1 64
 unfolding round
 least-is = refl
 
-recip-least : (s y : Float) (n : ℕ) → n ≤ 64 → HasValue y false n 1 → T (finite s) → T (le fin1 s) → T (le s y)
-    → T (le leastF (div binary32 fin1 s))
-unfolding div
+recip-least : (s y : Float) (n : ℕ) → n ≤ 64 → HasValue y false n 1 → T (finite s) → T (le oneF s) → T (le s y)
+    → T (le leastF (div binary32 oneF s))
+unfolding div ofBits
 recip-least nan y n N v f lo hi = absurd f
 recip-least (inf s) y n N v f lo hi = absurd f
-recip-least (fin true k d) y n N v f lo hi = absurd (omega (arith, down-pos d, le→⊑ fin1 (fin true k d) tt tt lo))
-recip-least (fin false zero d) y n N v f lo hi = absurd (omega (arith, down-pos d, zero-mul (up d), le→⊑ fin1 (fin false 0 d) tt tt lo))
+recip-least (fin true k d) y n N v f lo hi = absurd (omega (arith, down-pos d, le→⊑ oneF (fin true k d) tt tt lo))
+recip-least (fin false zero d) y n N v f lo hi = absurd (omega (arith, down-pos d, zero-mul (up d), le→⊑ oneF (fin false 0 d) tt tt lo))
 recip-least (fin false (suc k) d) y n N v f lo hi =
     rw (least-is, ne-eqb (suc k) 0 (λ q. omega arith))
     (round-mono binary32 1 64 (1 * 1 * down d) (suc k * up d * 1) (lit< tt) above
     (omega (arith, count-le (suc k) d y n v hi, mul-le-mul-right (down d) N)))
   where
     above : 0 < suc k * up d * 1
-    above = omega (arith, down-pos d, le→⊑ fin1 (fin false (suc k) d) tt tt lo)
+    above = omega (arith, down-pos d, le→⊑ oneF (fin false (suc k) d) tt tt lo)
 
 recip-finite : (s : Float) → Between zeroF oneF (div binary32 oneF s) → T (finite (div binary32 oneF s))
 unfolding ofBits
@@ -124,7 +123,7 @@ module _ (s : List Float) (I : Input s) (few : length s ≤ 64) where
   unfolding levelSteps
   top-steps =
       rw (steps-at (weightsOf s) i (subst (λ n. i < n) (sym (weights-length s)) i-in), top)
-      (least-steps (div binary32 oneF sum) (recip-finite sum (recip-between sum (facts .sum-from-one))) top-least)
+      (least-steps (div binary32 oneF sum) (recip-finite sum (one-over sum (facts .sum-from-one))) top-least)
 
   pub steps-total : 0 < total (levelSteps s)
   unfolding total

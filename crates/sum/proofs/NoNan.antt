@@ -12,7 +12,6 @@ use lib.ListN.{length}
 use borrow.Author.Tests.{ltb-false, not-false}
 use Rattle.lists.proofs.First.{Passed, first-clear}
 use Rattle.floats.specs.Float.{absOf, finiteAt}
-use Rattle.floats.proofs.Values.{fin0}
 use Rattle.floats.proofs.Sign.{finite-number}
 use Rattle.floats.proofs.Order.{le-numbers}
 use Rattle.floats.proofs.NoNan.{add-number, sub-number}
@@ -30,24 +29,23 @@ use Rattle.sum.specs.declared.SumOp.the-variants.{Sum, SumSquare, SumAbs
 -- what the held sum stays: a number, and but for `Sum` one that is not below zero
 abbrev pub Kept : SumOp → Float → Type 0
 Kept Sum b = T (not (isNan b))
-Kept SumSquare b = T (le fin0 b)
-Kept SumAbs b = T (le fin0 b)
-Kept (SumSquareSub offset) b = T (le fin0 b)
-Kept (SumExpSub offset) b = T (le fin0 b)
+Kept SumSquare b = T (le zeroF b)
+Kept SumAbs b = T (le zeroF b)
+Kept (SumSquareSub offset) b = T (le zeroF b)
+Kept (SumExpSub offset) b = T (le zeroF b)
 
 kept-number : (op : SumOp) (b : Float) → Kept op b → T (not (isNan b))
 kept-number Sum b k = k
-kept-number SumSquare b k = le-numbers fin0 b k .1
-kept-number SumAbs b k = le-numbers fin0 b k .1
-kept-number (SumSquareSub offset) b k = le-numbers fin0 b k .1
-kept-number (SumExpSub offset) b k = le-numbers fin0 b k .1
+kept-number SumSquare b k = le-numbers zeroF b k .1
+kept-number SumAbs b k = le-numbers zeroF b k .1
+kept-number (SumSquareSub offset) b k = le-numbers zeroF b k .1
+kept-number (SumExpSub offset) b k = le-numbers zeroF b k .1
 
 -- the difference of two finite values
 apart : (x offset : Float) → T (finite x) → T (finite offset) → T (not (isNan (sub binary32 x offset)))
 apart x offset f o = sub-number binary32 x offset (finite-number x f) (finite-number offset o) (inl f)
 
 step-keeps : (op : SumOp) → T (offsetOk op) → (b x : Float) → Kept op b → T (finite x) → Kept op (stepOf op b x)
-unfolding ofBits
 step-keeps Sum o b x k f = add-number binary32 b x k (finite-number x f) (inr f)
 step-keeps SumSquare o b x k f = add-le binary32 (mul binary32 x x) b (square-le binary32 x (finite-number x f)) k
 step-keeps SumAbs o b x k f = add-le binary32 b (absOf x) k (abs-le x (finite-number x f))

@@ -1,6 +1,6 @@
 use mathlib.Core.Path.{sym, subst}
 use lib.Dec.{T}
-use lib.Ieee.{binary32, fits, ofBits}
+use lib.Ieee.{binary32, fits}
 use Rattle.floats.proofs.Size.{size-then, size-else}
 use Rattle.floats.proofs.bits.abs.Statement.{statement}
 use Rattle.floats.proofs.bits.abs.Tie as tie
@@ -9,11 +9,9 @@ held : (c : tie.Start) → T (fits binary32 (c .args .x))
 held c = subst T (sym (c .good .0 .1)) tt
 
 returns : tie.Need-returns
-unfolding ofBits
 returns c = size-then binary32 (c .before .args .x) (held (c .before)) (c .if1 .taken)
 
 returns-2 : tie.Need-returns-2
-unfolding ofBits
 returns-2 c = size-else binary32 (c .before .args .x) (held (c .before)) (c .if1 .left)
 
 pub abs-spec : {M : Type 1} → statement M
