@@ -6,7 +6,7 @@ use native.Mathlib.Omega.{arith}
 use lib.Dec.{T}
 use lib.Ieee.{Float, nan, inf, fin, Format, binary32, binary64, round, add, mul, le, isNan, ofBits}
 use lib.Ieee.Scale.{finite}
-use Rattle.floats.specs.Float.{absOf}
+use Rattle.floats.specs.Float.{mulAdd, absOf}
 use Rattle.floats.proofs.Sign.{hasSign, round-has}
 use Rattle.floats.proofs.Signed.{⊑→le}
 use Rattle.floats.proofs.Order.{le-trans-f}
@@ -60,6 +60,10 @@ square-le f (inf true) h = plus-le (inf false) tt
 square-le f (inf false) h = plus-le (inf false) tt
 square-le f (fin true m e) h = plus-le _ (round-has f false _ _)
 square-le f (fin false m e) h = plus-le _ (round-has f false _ _)
+
+-- added to what is not below zero
+pub square-add-le : (b x : Float) → T (le zeroF b) → T (not (isNan x)) → T (le zeroF (mulAdd x x b))
+square-add-le b x k n = add-le binary32 (mul binary32 x x) b (square-le binary32 x n) k
 
 pub abs-le : (x : Float) → T (not (isNan x)) → T (le zeroF (absOf x))
 unfolding isNan

@@ -19,7 +19,7 @@ use Rattle.meter.specs.Meter.{newMeter, nextOf, feedOf}
 use Rattle.meter.specs.declared.Meter.{Meter}
 use Rattle.meter.specs.declared.Fed.the-variants.{Next}
 use Rattle.meter.proofs.Feed.{Accepted, accepted}
-use Rattle.meter.proofs.NoNan.{each-number}
+use Rattle.meter.proofs.Sound.{each-number}
 
 -- each value by its own fold, from the held one (`nextOf` of specs/Meter.antt)
 pub continued : (m n : Meter) (s : List Float) → feedOf m s ≡ Next n → n ≡ nextOf m s

@@ -17,7 +17,7 @@ use Rattle.meter.specs.Meter.{nextOf, feedOf, feedAll}
 use Rattle.meter.specs.declared.Meter.{Meter}
 use Rattle.meter.specs.declared.Fed.the-variants.{Next}
 use Rattle.meter.proofs.Feed.{Accepted, accepts, accepted}
-use Rattle.meter.proofs.NoNan.{next-sound}
+use Rattle.meter.proofs.Sound.{next-sound}
 
 -- the next meter's next one is the joined feeding's
 next-append : (m : Meter) (s t : List Float) → nextOf m (s ++ t) ≡ nextOf (nextOf m s) t

@@ -1,10 +1,14 @@
--- Laws of the sums' fold, once over the sum: in a loop, over joined lists, and from nothing. Assumes nothing.
+-- Laws of the sums' fold, once over the sum: in a loop, over joined lists, from nothing, and what it keeps. Assumes nothing.
 use Prim.Native.Nat.{ℕ, _+_, _-_, _≤_, _<_}
-use mathlib.Core.Path.{_≡_, refl}
+use mathlib.Core.Path.{_≡_, refl, sym, subst}
 use mathlib.Core.List.{List, [], _++_, map, foldl-append, foldl-map}
+use lib.Dec.{T}
 use lib.Ieee.{Float, nan, binary32, sub}
+use lib.Ieee.Scale.{finite}
 use lib.ListN.{length, getD, take, drop}
-use Rattle.lists.proofs.Fold.{fold-more, fold-run, fold-end}
+use Rattle.lists.proofs.First.{Passed}
+use Rattle.lists.proofs.Fold.{fold-more, fold-run, fold-end, fold-keeps}
+use Rattle.floats.specs.Float.{finiteAt}
 use Rattle.exp.specs.Exp.{expOf}
 use Rattle.sum.specs.Sum.{stepOf, sumFrom}
 use Rattle.sum.specs.declared.SumOp.{SumOp}
@@ -31,6 +35,12 @@ module _ (op : SumOp) where
   pub sum-append : (held : Float) (s t : List Float) → sumFrom op held (s ++ t) ≡ sumFrom op (sumFrom op held s) t
   unfolding sumFrom
   sum-append held s t = foldl-append (stepOf op) held s t
+
+  -- what each step from a finite element keeps, the sum keeps
+  pub sum-keeps : (K : Float → Type 0) → ((b x : Float) → K b → T (finite x) → K (stepOf op b x)) → (s : List Float)
+      → Passed (finiteAt s) (length s) → (held : Float) → K held → K (sumFrom op held s)
+  unfolding sumFrom
+  sum-keeps K k s p held h = fold-keeps (stepOf op) K (λ x. T (finite x)) k nan s (λ i l. subst T (sym (p i l)) tt) held h
 
   pub sum-none : (held : Float) → sumFrom op held [] ≡ held
   unfolding sumFrom

@@ -6,12 +6,11 @@ use mathlib.Core.Bool.{not}
 use mathlib.Core.List.{List}
 use mathlib.Core.Logic.{inl, inr}
 use lib.Dec.{T}
-use lib.Ieee.{Float, nan, binary32, ofBits, sub, mul, le, isNan}
+use lib.Ieee.{Float, binary32, ofBits, sub, le, isNan}
 use lib.Ieee.Scale.{finite}
-use lib.ListN.{length}
 use borrow.Author.Tests.{ltb-false, not-false}
-use Rattle.lists.proofs.First.{Passed, first-clear}
-use Rattle.floats.specs.Float.{absOf, finiteAt}
+use Rattle.lists.proofs.First.{first-clear}
+use Rattle.floats.specs.Float.{absOf}
 use Rattle.floats.proofs.Sign.{finite-number}
 use Rattle.floats.proofs.Order.{le-numbers}
 use Rattle.floats.proofs.NoNan.{add-number, sub-number}
@@ -20,14 +19,14 @@ use Rattle.answer.proofs.Chain.{opened}
 use Rattle.floats.specs.Values.{zeroF}
 use Rattle.exp.specs.Exp.{expOf}
 use Rattle.exp_facts.proofs.Facts.{exp-above}
-use Rattle.lists.proofs.Fold.{fold-keeps}
-use Rattle.floats.proofs.NotNegative.{add-le, square-le, abs-le}
+use Rattle.floats.proofs.NotNegative.{add-le, square-add-le, abs-le}
+use Rattle.sum.proofs.Fold.{sum-keeps}
 use Rattle.sum.specs.Sum.{stepOf, sumFrom, offsetOk, addUpAnswer}
 use Rattle.sum.specs.declared.SumOp.{SumOp}
 use Rattle.sum.specs.declared.SumOp.the-variants.{Sum, SumSquare, SumAbs, SumSquareSub, SumExpSub}
 
 -- what the held sum stays: a number, and but for `Sum` one that is not below zero
-abbrev pub Kept : SumOp → Float → Type 0
+abbrev Kept : SumOp → Float → Type 0
 Kept Sum b = T (not (isNan b))
 Kept SumSquare b = T (le zeroF b)
 Kept SumAbs b = T (le zeroF b)
@@ -47,21 +46,12 @@ apart x offset f o = sub-number binary32 x offset (finite-number x f) (finite-nu
 
 step-keeps : (op : SumOp) → T (offsetOk op) → (b x : Float) → Kept op b → T (finite x) → Kept op (stepOf op b x)
 step-keeps Sum o b x k f = add-number binary32 b x k (finite-number x f) (inr f)
-step-keeps SumSquare o b x k f = add-le binary32 (mul binary32 x x) b (square-le binary32 x (finite-number x f)) k
+step-keeps SumSquare o b x k f = square-add-le b x k (finite-number x f)
 step-keeps SumAbs o b x k f = add-le binary32 b (absOf x) k (abs-le x (finite-number x f))
-step-keeps (SumSquareSub offset) o b x k f =
-    let d = sub binary32 x offset in
-    add-le binary32 (mul binary32 d d) b (square-le binary32 d (apart x offset f o)) k
+step-keeps (SumSquareSub offset) o b x k f = square-add-le b (sub binary32 x offset) k (apart x offset f o)
 step-keeps (SumExpSub offset) o b x k f =
     let d = sub binary32 x offset in
     add-le binary32 b (expOf d) k (exp-above d (apart x offset f o))
-
--- from a held sum on
-pub sum-keeps : (op : SumOp) → T (offsetOk op) → (s : List Float) → Passed (finiteAt s) (length s) → (held : Float) → Kept op held
-    → Kept op (sumFrom op held s)
-unfolding sumFrom
-sum-keeps op o s p held k =
-    fold-keeps (stepOf op) (Kept op) (λ x. T (finite x)) (step-keeps op o) nan s (λ i h. subst T (sym (p i h)) tt) held k
 
 start-kept : (op : SumOp) → Kept op zeroF
 unfolding ofBits isNan le
@@ -78,4 +68,5 @@ sum-no-nan op s d =
     let b = opened _ _ _ (a .1) in
     let c = opened _ _ _ (b .1) in
     kept-number op (sumFrom op zeroF s)
-    (sum-keeps op (subst T (sym (not-false (offsetOk op) (b .0))) tt) s (first-clear _ _ (ltb-false _ _ (c .0))) zeroF (start-kept op))
+    (sum-keeps op (Kept op) (step-keeps op (subst T (sym (not-false (offsetOk op) (b .0))) tt)) s (first-clear _ _ (ltb-false _ _ (c .0)))
+    zeroF (start-kept op))
