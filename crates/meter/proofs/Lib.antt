@@ -1,6 +1,5 @@
 pub mod Feed
 pub mod Sound
-pub mod NoNan
 pub mod Pieces
 pub mod Count
 pub mod Continued

@@ -4,3 +4,6 @@ pub mod Erf
 pub mod SinCos
 pub mod NoNan
 pub mod Called
+pub mod Sums
+pub mod Meter
+pub mod Normalize

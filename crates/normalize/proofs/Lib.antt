@@ -1,5 +1,4 @@
 pub mod Passing
-pub mod NoNan
 pub mod Cases
 pub mod Determined
 pub mod Place
