@@ -1,11 +1,14 @@
--- Where a call is done, no output is a NaN. Assumes nothing.
-use Prim.Native.Nat.{ℕ, _<_}
+-- Where a call of normalize is done, no output is a NaN. Assumes nothing.
+--
+--   in-place-numbers : (st : Settings) (hs : Bool) (es : List Float) (hb : Bool) (eb s : List Float) → InPlaceNumbers st hs es hb eb s
+--   normalize-numbers : .. (d : List Float) → NormalizeNumbers st hs es hb eb s d
+use Prim.Native.Nat.{_<_}
 use mathlib.Core.Path.{_≡_, sym, subst}
 use mathlib.Core.Bool.{Bool, not}
 use mathlib.Core.List.{List}
 use lib.Dec.{T, eqb}
-use lib.ListN.{length, getD}
-use lib.Ieee.{Float, nan, isNan}
+use lib.ListN.{length}
+use lib.Ieee.{Float, nan}
 use Rattle.lists.proofs.First.{first-clear}
 use Rattle.lists.proofs.Tab.{tab-at, tab-length}
 use Rattle.answer.specs.Answer.{judged, whenDone}
@@ -13,12 +16,9 @@ use Rattle.answer.specs.declared.Answer.the-variants.{Done}
 use Rattle.answer.specs.declared.Refusal.the-variants.{Length}
 use Rattle.answer.proofs.Chain.{opened}
 use Rattle.normalize.specs.declared.Settings.{Settings}
-use Rattle.normalize.specs.Normal.{resultAt, results, resultNumber, firstNanResult, tests, inPlaceAnswer, inPlaceOut, normalizeAnswer, normalizeOut}
+use Rattle.normalize.specs.Normal.{resultAt, results, resultNumber, firstNanResult, tests, inPlaceAnswer, normalizeAnswer}
 use Rattle.normalize.proofs.Passing.{passing}
-
--- the statement, of a list that a call leaves
-abbrev pub Numbers : List Float → Type 0
-Numbers l = (i : ℕ) → i < length l → T (not (isNan (getD l i nan)))
+use Rattle.no_nan.specs.Kernels.{Numbers, InPlaceNumbers, NormalizeNumbers}
 
 module _ (st : Settings) (hs : Bool) (es : List Float) (hb : Bool) (eb s : List Float) where
   numbers : Done ≡ judged (tests st hs es hb eb s) → Numbers (results st hs es hb eb s)
@@ -28,11 +28,11 @@ module _ (st : Settings) (hs : Bool) (es : List Float) (hb : Bool) (eb s : List 
       rw (tab-at (resultAt st hs es hb eb s) (length s) i nan k)
       (subst T (sym (first-clear (resultNumber st hs es hb eb s) (length s) (passing st hs es hb eb s e .1) i k)) tt)
 
-  pub in-place-numbers : Done ≡ inPlaceAnswer st hs es hb eb s → Numbers (inPlaceOut st hs es hb eb s)
+  pub in-place-numbers : InPlaceNumbers st hs es hb eb s
   unfolding inPlaceAnswer
   in-place-numbers e = subst (λ a. Numbers (whenDone a (results st hs es hb eb s) s)) e (numbers e)
 
-  pub normalize-numbers : (d : List Float) → Done ≡ normalizeAnswer st hs es hb eb s d → Numbers (normalizeOut st hs es hb eb s d)
+  pub normalize-numbers : (d : List Float) → NormalizeNumbers st hs es hb eb s d
   unfolding normalizeAnswer
   normalize-numbers d e =
       subst (λ a. Numbers (whenDone a (results st hs es hb eb s) d)) e

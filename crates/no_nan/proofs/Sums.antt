@@ -1,8 +1,7 @@
--- No sum on its domain holds a NaN. Assumes nothing.
+-- No sum on its domain holds a NaN: what each step keeps. Assumes nothing.
 --
---     sum-no-nan : (op : SumOp) (s : List Float) → Done ≡ addUpAnswer op s → T (not (isNan (sumFrom op zeroF s)))
-use mathlib.Core.Path.{_≡_, sym, subst}
-use mathlib.Core.Bool.{not}
+--   sum-no-nan : (op : SumOp) (s : List Float) → SumNumber op s
+use mathlib.Core.Path.{sym, subst}
 use mathlib.Core.List.{List}
 use mathlib.Core.Logic.{inl, inr}
 use lib.Dec.{T}
@@ -14,7 +13,6 @@ use Rattle.floats.specs.Float.{absOf}
 use Rattle.floats.proofs.Sign.{finite-number}
 use Rattle.floats.proofs.Order.{le-numbers}
 use Rattle.floats.proofs.NoNan.{add-number, sub-number}
-use Rattle.answer.specs.declared.Answer.the-variants.{Done}
 use Rattle.answer.proofs.Chain.{opened}
 use Rattle.floats.specs.Values.{zeroF}
 use Rattle.exp.specs.Exp.{expOf}
@@ -24,16 +22,18 @@ use Rattle.sum.proofs.Fold.{sum-keeps}
 use Rattle.sum.specs.Sum.{stepOf, sumFrom, offsetOk, addUpAnswer}
 use Rattle.sum.specs.declared.SumOp.{SumOp}
 use Rattle.sum.specs.declared.SumOp.the-variants.{Sum, SumSquare, SumAbs, SumSquareSub, SumExpSub}
+use Rattle.no_nan.specs.Claims.{Number}
+use Rattle.no_nan.specs.Kernels.{SumNumber}
 
 -- what the held sum stays: a number, and but for `Sum` one that is not below zero
 abbrev Kept : SumOp → Float → Type 0
-Kept Sum b = T (not (isNan b))
+Kept Sum b = Number b
 Kept SumSquare b = T (le zeroF b)
 Kept SumAbs b = T (le zeroF b)
 Kept (SumSquareSub offset) b = T (le zeroF b)
 Kept (SumExpSub offset) b = T (le zeroF b)
 
-kept-number : (op : SumOp) (b : Float) → Kept op b → T (not (isNan b))
+kept-number : (op : SumOp) (b : Float) → Kept op b → Number b
 kept-number Sum b k = k
 kept-number SumSquare b k = le-numbers zeroF b k .1
 kept-number SumAbs b k = le-numbers zeroF b k .1
@@ -41,7 +41,7 @@ kept-number (SumSquareSub offset) b k = le-numbers zeroF b k .1
 kept-number (SumExpSub offset) b k = le-numbers zeroF b k .1
 
 -- the difference of two finite values
-apart : (x offset : Float) → T (finite x) → T (finite offset) → T (not (isNan (sub binary32 x offset)))
+apart : (x offset : Float) → T (finite x) → T (finite offset) → Number (sub binary32 x offset)
 apart x offset f o = sub-number binary32 x offset (finite-number x f) (finite-number offset o) (inl f)
 
 step-keeps : (op : SumOp) → T (offsetOk op) → (b x : Float) → Kept op b → T (finite x) → Kept op (stepOf op b x)
@@ -61,7 +61,7 @@ start-kept SumAbs = tt
 start-kept (SumSquareSub offset) = tt
 start-kept (SumExpSub offset) = tt
 
-pub sum-no-nan : (op : SumOp) (s : List Float) → Done ≡ addUpAnswer op s → T (not (isNan (sumFrom op zeroF s)))
+pub sum-no-nan : (op : SumOp) (s : List Float) → SumNumber op s
 unfolding addUpAnswer
 sum-no-nan op s d =
     let a = opened _ _ _ d in

@@ -1,4 +1,4 @@
--- What the claims ask of an operator, its alpha and a value. Definitions only.
+-- What the claims on the operators ask of an operator, its alpha and a value. Definitions only.
 use mathlib.Core.Path.{_≡_}
 use mathlib.Core.Bool.{Bool, true, false, not}
 use lib.Dec.{T}

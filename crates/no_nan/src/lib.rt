@@ -1,1 +1,1 @@
-// No operator gives a NaN in its domain: the claims are in specs/ and proofs/. No code.
+// No operator, sum, meter or normalize gives a NaN in its domain: the claims are in specs/ and proofs/. No code.
