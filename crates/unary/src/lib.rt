@@ -62,6 +62,27 @@ pub fn alpha_ok(op: Op) -> bool
     }
 }
 
+// The operator at one element of its domain. For the crates above.
+pub fn eval(op: Op, x: f32) -> f32
+    requires { ⌜ inDomain op x ≡ true ⌝ }
+    ensures { λ r. ⌜ r ≡ evalOf op x ⌝ }
+{
+    match op {
+        Op::Exp => exp::exp(x),
+        Op::ReducedRangeExp => exp::reduced_range_exp(x),
+        Op::Sigmoid => exp::sigmoid(x),
+        Op::Silu => exp::silu(x),
+        Op::Swish(alpha) => exp::swish(alpha, x),
+        Op::Elu(alpha) => exp::elu(alpha, x),
+        Op::Tanh => tanh::tanh(x),
+        Op::Erf => erf::erf(x),
+        Op::Gelu => erf::gelu(x),
+        Op::ApproxGelu => erf::approx_gelu(x),
+        Op::Sin => sin_cos::sin(x),
+        Op::Cos => sin_cos::cos(x),
+    }
+}
+
 fn first_outside(op: Op, src: &[f32]) -> usize
     ensures { λ r. ⌜ r ≡ firstOutside op (now (src .entry)) ⌝ }
 {
