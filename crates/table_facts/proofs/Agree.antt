@@ -1,5 +1,4 @@
--- THEOREM: the two readers agree. `read` tells a table of B bands and N rows exactly where there is a block, the length is that of its blocks,
--- and `read_block` tells each of them, at its place, as one of a table of B bands and N rows. So it is with no gains lent. Assumes nothing.
+-- The two readers agree, gains lent or not (`ReadersAgree`, `JudgedAgrees`). Assumes nothing.
 use Prim.Native.Nat.{ℕ, _+_, _*_, _≤_, _<_}
 use mathlib.Core.Path.{_≡_, refl, sym, ap, _∙_}
 use mathlib.Core.Bool.{not}
@@ -13,28 +12,13 @@ use Rattle.answer.proofs.Chain.{opened, gives, skip, rest}
 use Rattle.block.specs.Form.{Form, Sound}
 use Rattle.block.specs.Block.{blocks, heldRows}
 use Rattle.block.specs.Read.{bytesFrom, wordAt, bandsOf, rowsOf, blockTestsBy, blockAnswerBy}
-use Rattle.table.specs.Table.{blockToldOf, blockWith, headerBy, blockToldBy, readToldBy, tableToldBy}
+use Rattle.table.specs.Table.{blockToldOf, blockWith, headerBy, blockToldBy}
 use Rattle.block.proofs.Shape.{per-pos, lt-blocks}
 use Rattle.block.proofs.Tests.{head-is}
 use Rattle.table.proofs.Reading.{Good, good, good-passes}
 use Rattle.table.proofs.Readable.{Reads, block-done, reads, reads-known, judged-reads, told-read, told-judged}
-use Rattle.table_facts.proofs.Part.{blockOf, block-byte, block-long, word-same, tests-same}
-
-pub record EachReads (F : Form) (s : List ℕ) (B N : ℕ) : Type 0 where
-  pub some : 0 < length s
-  pub long : length s ≡ 512 * blocks (F .width B) N
-  pub each : (k : ℕ) → k < blocks (F .width B) N → blockToldBy F k (blockOf s k) ≡ (0, 0, F .code, k, B, N, heldRows (F .width B) N k)
-
-abbrev pub ReadersAgree : Form → Type 0
-ReadersAgree F =
-    (s lent : List ℕ) (B N : ℕ)
-    → length lent ≡ N * B
-    → (readToldBy F s lent ≡ (0, 0, B, N) → EachReads F s B N) × (EachReads F s B N → readToldBy F s lent ≡ (0, 0, B, N))
-
-abbrev pub JudgedAgrees : Form → Type 0
-JudgedAgrees F =
-    (s : List ℕ) (B N : ℕ)
-    → (tableToldBy F s ≡ (0, 0, B, N) → EachReads F s B N) × (EachReads F s B N → tableToldBy F s ≡ (0, 0, B, N))
+use Rattle.table_facts.specs.Trips.{blockOf, EachReads, ReadersAgree, JudgedAgrees}
+use Rattle.table_facts.proofs.Part.{block-byte, block-long, word-same, tests-same}
 
 module _ (F : Form) (s : List ℕ) (B N k : ℕ) where
   f : ℕ → ℕ

@@ -5,8 +5,7 @@ use mathlib.Core.Bool.{true}
 use mathlib.Core.List.{List}
 use native.Mathlib.Nat.{mod-lt, mul-assoc, mul-comm, add-mul, div-add-mod', mul-add-div-right, mul-add-mod-self-right, div-eq-of-lt, mod-eq-of-lt, mul-le-mul-right, suc-mul, add-zero}
 use native.Mathlib.Omega.{arith}
-use lib.ListN.{length}
-use Rattle.lists.proofs.Tab.{tab-length, tab-at}
+use Rattle.lists.proofs.Tab.{tab-at}
 use Rattle.block.specs.Form.{Form, Sound}
 use Rattle.block.specs.Block.{perBlock, blocks, heldRows, given}
 use Rattle.block.specs.Write.{rowOk, gainOf}

@@ -4,7 +4,7 @@ use mathlib.Core.Path.{_≡_, refl, sym, ap, _∙_}
 use mathlib.Core.List.{List}
 use native.Mathlib.Nat.{mul-le-mul-right, suc-mul, zero-add}
 use native.Mathlib.Omega.{arith}
-use lib.ListN.{length, getD, take, drop, length-take, length-drop}
+use lib.ListN.{length, getD, drop, length-take, length-drop}
 use lib.Seq.{getD-take, getD-drop}
 use lib.Dec.{leb, eqb}
 use Rattle.lists.proofs.First.{first-same}
@@ -16,10 +16,7 @@ use Rattle.block.proofs.Shape.{held-small}
 use Rattle.block.proofs.Bytes.{checkA-same, checkB-same}
 use Rattle.block.proofs.Totals.{row-same}
 use Rattle.block.proofs.Given.{given-same}
-
--- the 512 bytes of block k
-abbrev pub blockOf : List ℕ → ℕ → List ℕ
-blockOf s k = take 512 (drop (512 * k) s)
+use Rattle.table_facts.specs.Trips.{blockOf}
 
 pub block-byte : (s : List ℕ) (k i : ℕ) → i < 512 → bytesFrom (blockOf s k) 0 i ≡ bytesFrom s (512 * k) i
 block-byte s k i l =

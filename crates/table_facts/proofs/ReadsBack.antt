@@ -1,5 +1,4 @@
--- THEOREM: what was written reads back. Where `write` is done, `read` of the bytes that it left, with as many gains lent as were written,
--- tells the bands and rows, and leaves the gains that were written. Assumes nothing.
+-- What was written reads back (`ReadsBack`). Assumes nothing.
 use Prim.Native.Nat.{ℕ, _*_, _<_}
 use mathlib.Core.Path.{_≡_, sym, ap, _∙_, subst}
 use mathlib.Core.Bool.{true}
@@ -13,18 +12,12 @@ use Rattle.answer.proofs.Numbers.{zero-done}
 use Rattle.answer.proofs.Chain.{opened}
 use Rattle.block.specs.Form.{Form, Sound}
 use Rattle.block.specs.Block.{tableBytes}
-use Rattle.block.specs.Write.{shapeOkBy, rowOk, badRow, gainOf, writeAnswerBy, writeToldBy, writeOutBy}
+use Rattle.block.specs.Write.{shapeOkBy, rowOk, badRow, gainOf, writeAnswerBy, writeOutBy}
 use Rattle.block.specs.Read.{readOutBy}
 use Rattle.table.specs.Table.{readToldBy}
 use Rattle.table.proofs.Readable.{told-read, read-out}
+use Rattle.table_facts.specs.Trips.{ReadsBack}
 use Rattle.table_facts.proofs.Written.{some-block, table-reads, gains-back}
-
-abbrev pub ReadsBack : Form → Type 0
-ReadsBack F =
-    (B N : ℕ) (gains bytes lent : List ℕ)
-    → writeToldBy F B N gains bytes ≡ (0, 0)
-    → length lent ≡ length gains
-    → (readToldBy F (writeOutBy F B N gains bytes) lent ≡ (0, 0, B, N)) × (readOutBy F (writeOutBy F B N gains bytes) lent ≡ gains)
 
 -- a write that is done passed its tests
 record Passed (F : Form) (B N : ℕ) (gains : List ℕ) : Type 0 where

@@ -1,5 +1,4 @@
--- THEOREM: what reads, rewrites to the same bytes. Where `read` of bytes tells bands and rows, `write` of these and of the gains that it left
--- leaves the same bytes. Assumes nothing.
+-- What reads rewrites to the same bytes (`Rewrites`). Assumes nothing.
 use Prim.Native.Nat.{ℕ, _+_, _*_, _/_, _%_, _<_}
 use mathlib.Core.Path.{_≡_, sym, ap, _∙_}
 use mathlib.Core.List.{List}
@@ -9,26 +8,16 @@ use lib.ListN.{length, getD}
 use Rattle.lists.proofs.Tab.{tab-is}
 use Rattle.answer.specs.Answer.{whenDone}
 use Rattle.block.specs.Form.{Form, Sound}
-use Rattle.block.specs.Block.{perBlock, blocks, heldRows, given, stored, tableByte, tableBytes}
-use Rattle.block.specs.Write.{writeOutBy}
-use Rattle.block.specs.Read.{bytesFrom, gainIn, gainAt, readOutBy, tableGainsBy}
-use Rattle.table.specs.Table.{readToldBy}
+use Rattle.block.specs.Block.{perBlock, blocks, heldRows, stored, tableByte, tableBytes}
+use Rattle.block.specs.Read.{bytesFrom, gainIn, gainAt, tableGainsBy}
 use Rattle.block.proofs.Shape.{per-pos, held-fits, held-wide, wide-pos}
 use Rattle.block.proofs.Bytes.{table-at}
 use Rattle.block.proofs.Given.{stored-given}
 use Rattle.table.proofs.Readable.{Reads, reads, reads-known, read-out}
+use Rattle.table_facts.specs.Trips.{Rewrites}
 use Rattle.table_facts.proofs.Block.{block-is}
 use Rattle.table_facts.proofs.Gains.{gain-in, gains-at}
 use Rattle.table_facts.proofs.WritesAgain.{written-done}
-
--- s holds bytes, as every &[u8] does
-abbrev pub Rewrites : Form → Type 0
-Rewrites F =
-    (s lent bytes : List ℕ) (B N : ℕ)
-    → ((i : ℕ) → getD s i 0 < 256)
-    → readToldBy F s lent ≡ (0, 0, B, N)
-    → length bytes ≡ length s
-    → writeOutBy F B N (readOutBy F s lent) bytes ≡ s
 
 module _ {F : Form} (S : Sound F) (s : List ℕ) (B N : ℕ) (r : Reads F s B N) (small : (i : ℕ) → getD s i 0 < 256) where
   abbrev W : ℕ

@@ -1,5 +1,4 @@
--- THEOREM: what reads can be written. Where `read` tells bands and rows, `write` of these and of the gains that it left is done,
--- into a buffer as long as the bytes that were read. Assumes nothing.
+-- What reads can be written (`WritesAgain`). Assumes nothing.
 use Prim.Native.Nat.{ℕ, _*_}
 use mathlib.Core.Path.{_≡_, sym, ap, _∙_}
 use mathlib.Core.Bool.{not}
@@ -13,19 +12,12 @@ use Rattle.answer.specs.declared.Answer.the-variants.{Done}
 use Rattle.answer.proofs.Chain.{gives, skip, clear, found-none}
 use Rattle.block.specs.Form.{Form, Sound}
 use Rattle.block.specs.Block.{blocks}
-use Rattle.block.specs.Write.{rowOk, badRow, gainOf, writeAnswerBy, writeToldBy}
-use Rattle.block.specs.Read.{readOutBy, tableGainsBy}
-use Rattle.table.specs.Table.{readToldBy}
+use Rattle.block.specs.Write.{rowOk, badRow, gainOf, writeAnswerBy}
+use Rattle.block.specs.Read.{tableGainsBy}
 use Rattle.block.proofs.Tests.{shape-ok}
 use Rattle.table.proofs.Readable.{Reads, reads, reads-many, read-out}
+use Rattle.table_facts.specs.Trips.{WritesAgain}
 use Rattle.table_facts.proofs.Gains.{rows-add}
-
-abbrev pub WritesAgain : Form → Type 0
-WritesAgain F =
-    (s lent bytes : List ℕ) (B N : ℕ)
-    → readToldBy F s lent ≡ (0, 0, B, N)
-    → length bytes ≡ length s
-    → writeToldBy F B N (readOutBy F s lent) bytes ≡ (0, 0)
 
 pub written-done : {F : Form} → Sound F → (s : List ℕ) (B N room : ℕ) → Reads F s B N → room ≡ length s → Done ≡ writeAnswerBy F B N (tableGainsBy F s) room
 unfolding writeAnswerBy badRow
