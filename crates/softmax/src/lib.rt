@@ -8,7 +8,7 @@ ghost use lib.ListN.{length, getD};
 ghost use Rattle.answer.specs.Answer.{toldOf};
 ghost use Rattle.floats.specs.Values.{zeroF};
 ghost use Rattle.lists.specs.Index.{tab};
-ghost use Rattle.softmax.specs.Softmax.{isMasked, inDomain, firstOutside, allMasked, maxOf, expLess, sumOf, scaledBy, resultOf, inPlaceAnswer, inPlaceTold, inPlaceOut, softmaxTold, softmaxOut};
+ghost use Rattle.softmax.specs.Softmax.{isMasked, inDomain, firstOutside, allMasked, maxOf, expLess, sumOf, scaledBy, inPlaceAnswer, inPlaceTold, inPlaceOut, softmaxTold, softmaxOut};
 use answer::Answer;
 use answer::Refusal;
 use answer::is_done;
@@ -151,31 +151,6 @@ fn clear(buf: &mut [f32])
     }
 }
 
-fn fill(src: &[f32], dst: &mut [f32])
-    requires { ⌜ length (now src) ≡ length (now dst) ⌝ }
-    requires { ⌜ ((i : ℕ) → i < length (now src) → inDomain (getD (now src) i nan) ≡ true) ⌝ }
-    ensures { λ _. ⌜ now (dst .exit) ≡ resultOf (now (src .entry)) ⌝ }
-{
-    if all_masked(src) {
-        clear(dst);
-        return;
-    }
-    exps(max(src), src, dst);
-    scale(sum(dst), dst);
-}
-
-fn fill_in_place(buf: &mut [f32])
-    requires { ⌜ ((i : ℕ) → i < length (now buf) → inDomain (getD (now buf) i nan) ≡ true) ⌝ }
-    ensures { λ _. ⌜ now (buf .exit) ≡ resultOf (now (buf .entry)) ⌝ }
-{
-    if all_masked(buf) {
-        clear(buf);
-        return;
-    }
-    exps_in_place(max(buf), buf);
-    scale(sum(buf), buf);
-}
-
 // Document 01's refusals 1, 2, 4, 5; nothing is written before the last element has been looked at.
 pub fn softmax(flush: bool, src: &[f32], dst: &mut [f32]) -> Answer
     ensures told { λ r. ⌜ toldOf r ≡ softmaxTold flush (now (src .entry)) (now (dst .entry)) ⌝ }
@@ -188,7 +163,12 @@ pub fn softmax(flush: bool, src: &[f32], dst: &mut [f32]) -> Answer
     if !is_done(answer) {
         return answer;
     }
-    fill(src, dst);
+    if all_masked(src) {
+        clear(dst);
+        return answer;
+    }
+    exps(max(src), src, dst);
+    scale(sum(dst), dst);
     answer
 }
 
@@ -201,6 +181,11 @@ pub fn softmax_in_place(flush: bool, buf: &mut [f32]) -> Answer
     if !is_done(answer) {
         return answer;
     }
-    fill_in_place(buf);
+    if all_masked(buf) {
+        clear(buf);
+        return answer;
+    }
+    exps_in_place(max(buf), buf);
+    scale(sum(buf), buf);
     answer
 }

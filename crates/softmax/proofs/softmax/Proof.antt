@@ -1,9 +1,11 @@
 use mathlib.Core.Path.{sym, _∙_, ap}
 use borrow.Author.Tests.{eq-eqb, ne-eqb, not-true, not-false}
 use mathlib.Core.Bool.{not}
+use denote.Ref.{now}
 use Rattle.answer.proofs.Chain.{stop, skip, rest, refuses, breaks, ends}
 use Rattle.softmax.specs.Softmax.{softmaxAnswer, inPlaceAnswer}
-use Rattle.softmax.proofs.Result.{done-domain}
+use Rattle.softmax.proofs.Maximum.{not-above}
+use Rattle.softmax.proofs.Result.{result-clear, result-passes, done-domain}
 use borrow.Author.Needs.{needs}
 use Rattle.softmax.proofs.softmax.Statement.{statement}
 use Rattle.softmax.proofs.softmax.Tie as tie
@@ -25,11 +27,11 @@ returns-2 c =
     breaks _ _ (at .judge .result) (sym (c .before .is-done .ensures) ∙ not-true _ (c .if2 .taken))
     (skip (ap not (eq-eqb _ _ (at .before .if1 .left))) (rest (at .judge .ensures)))
 
-fill-requires : tie.Need-fill-requires
-fill-requires c κs =
-    let at = c .before .before .before in
-    let done = sym (c .before .before .is-done .ensures) ∙ not-false _ (c .before .if2 .left) in
-    (at .before .if1 .left, done-domain _ _ (at .judge .result) done (at .judge .ensures))
+all-masked-requires : tie.Need-all-masked-requires
+all-masked-requires c κs = search needs
+
+clear-requires : tie.Need-clear-requires
+clear-requires c κs = search needs
 
 same-length : tie.Need-same-length
 same-length c = search needs
@@ -37,9 +39,46 @@ same-length c = search needs
 returns-3 : tie.Need-returns-3
 unfolding softmaxAnswer inPlaceAnswer
 returns-3 c =
-    let far = c .before .before .before .before in
-    let at = far .before .before in
-    ends _ _ (at .judge .result) (sym (far .before .is-done .ensures) ∙ not-false _ (far .if2 .left)) (c .before .before .fill .ensures)
+    let look = c .before .before .before .before .before in
+    let at = look .before .before .before in
+    let s = now (at .before .before .before .before .args .src) in
+    ends _ _ (at .judge .result) (sym (look .before .before .is-done .ensures) ∙ not-false _ (look .before .if2 .left))
+    (result-clear s _ _ (sym (look .all-masked .ensures) ∙ c .before .before .before .before .if3 .taken) (at .before .if1 .left) (c .before .before .clear .ensures))
+    (skip (ap not (eq-eqb _ _ (at .before .if1 .left))) (rest (at .judge .ensures)))
+
+max-requires : tie.Need-max-requires
+max-requires c κs = search needs
+
+exps-requires : tie.Need-exps-requires
+exps-requires c κs =
+    let look = c .before .before .before in
+    let at = look .before .before .before in
+    let s = now (at .before .before .before .before .args .src) in
+    let done = sym (look .before .before .is-done .ensures) ∙ not-false _ (look .before .if2 .left) in
+    let inside = done-domain s _ (at .judge .result) done (at .judge .ensures) in
+    (at .before .if1 .left, λ i h. rw (c .before .max .ensures) (not-above s inside i h))
+
+sum-requires : tie.Need-sum-requires
+sum-requires c κs = search needs
+
+scale-requires : tie.Need-scale-requires
+scale-requires c κs = search needs
+
+same-length-2 : tie.Need-same-length-2
+same-length-2 c = search needs
+
+returns-4 : tie.Need-returns-4
+unfolding softmaxAnswer inPlaceAnswer
+returns-4 c =
+    let total = c .before .before .before .before in
+    let filled = total .before .before .before .before in
+    let top = filled .before .before in
+    let look = top .before .before in
+    let at = look .before .before .before in
+    let s = now (at .before .before .before .before .args .src) in
+    ends _ _ (at .judge .result) (sym (look .before .before .is-done .ensures) ∙ not-false _ (look .before .if2 .left))
+    (result-passes s (top .max .result) (total .sum .result) _ _ (sym (look .all-masked .ensures) ∙ top .before .if3 .left) (top .max .ensures)
+    (filled .exps .ensures) (total .sum .ensures) (c .before .before .scale .ensures))
     (skip (ap not (eq-eqb _ _ (at .before .if1 .left))) (rest (at .judge .ensures)))
 
 pub softmax-spec : {M : Type 1} → statement M
@@ -50,6 +89,13 @@ softmax-spec =
     judge-requires
     is-done-requires
     returns-2
-    fill-requires
+    all-masked-requires
+    clear-requires
     same-length
-    returns-3)
+    returns-3
+    max-requires
+    exps-requires
+    sum-requires
+    scale-requires
+    same-length-2
+    returns-4)
