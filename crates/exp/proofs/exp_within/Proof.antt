@@ -1,3 +1,5 @@
+-- k is read from y, which is x or, for a NaN, the lower end (`exp-reads`): its word is the definition's k (`shifted-word`), and that y was read
+-- does not show in the result, since a NaN comes back by `rest` (`reads-same`).
 use mathlib.Core.Path.{_≡_, refl}
 use lib.Ieee.{Float, nan, add, sub, mul, sum, isNan, lt, le, eq, ofBits}
 use borrow.Author.Needs.{needs}

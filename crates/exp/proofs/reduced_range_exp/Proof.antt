@@ -1,3 +1,4 @@
+-- Below the cutoff +0; from there on k is read as in `exp_within`, and the factor's word ends in 23 zero bits, so it is no NaN's pattern (`low-zero`).
 use mathlib.Core.Path.{_≡_, refl}
 use native.Mathlib.Omega.{arith}
 use lib.Ieee.{Float, nan, binary32, add, sub, mul, sum, isNan, lt, le, eq, ofBits}

@@ -1,3 +1,4 @@
+-- The loop keeps `Mapped`: dst holds `reducedRangeExpOf` of src below i. What the element function asks at i is the loop's own `requires` there.
 use Prim.Native.Nat.{_-_}
 use native.Mathlib.Omega.{arith}
 use lib.Ieee.{nan}

@@ -1,3 +1,4 @@
+-- A value unlike itself is a NaN (`nan-test`), so the branches' tests are those of `soundMeter`, in its order.
 use mathlib.Core.Path.{_≡_, sym, _∙_}
 use mathlib.Core.Bool.{true, false}
 use lib.Ieee.{isNan}

@@ -1,3 +1,4 @@
+-- Quarters and rest make up src: the fold over the rest from the quarters' is that over all (`extreme-parted`), and no NaN in either is none in src (`numbers-parted`).
 use native.Mathlib.Omega.{arith}
 use lib.ListN.{length-take, length-drop}
 use Rattle.min_max.proofs.Runs.{extreme-parted, numbers-parted}

@@ -1,3 +1,4 @@
+-- Each return tells the first test that holds, with +0 twice; where none holds, the two folds from the infinities, which are `look`'s from `top` and `-top`.
 use mathlib.Core.Path.{refl, _∙_, ap, ap₂}
 use lib.Ieee.{Float, neg}
 use borrow.Author.Tests.{lt-ltb, le-ltb}

@@ -1,3 +1,4 @@
+-- A refusal is the length's, or `judge`'s with nothing written; where it is done the slices in use fit (`may-fill`), so `fill` may run, and leaves the results.
 use denote.Ref.{now}
 use mathlib.Core.Path.{sym, _∙_, ap}
 use mathlib.Core.Bool.{not}

@@ -1,3 +1,4 @@
+-- As in `normalize`, with no length to ask about.
 use denote.Ref.{now}
 use mathlib.Core.Path.{sym, _∙_}
 use borrow.Author.Tests.{not-true, not-false}

@@ -1,3 +1,4 @@
+-- Each return is the arm of `normOf` that the flags and the bias choose: the branches' tests decide its `cond`s.
 use mathlib.Core.Path.{_∙_}
 use borrow.Author.Tests.{not-true, not-false}
 use Rattle.normalize.specs.Normal.{normOf}

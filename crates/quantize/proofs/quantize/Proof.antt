@@ -1,3 +1,4 @@
+-- Each return is the first test of the list that holds: `past2` and `past3` pass those before it; past all four dst is filled with the codes.
 use denote.Ref.{now}
 use mathlib.Core.Path.{sym, _∙_, ap}
 use mathlib.Core.Bool.{not}

@@ -1,3 +1,4 @@
+-- The loop keeps `Mapped`: dst holds the exponentials of src below i. What `reduced_range_exp` asks at i is the function's own `requires` there.
 use Prim.Native.Nat.{_-_}
 use native.Mathlib.Omega.{arith}
 use lib.Ieee.{nan}

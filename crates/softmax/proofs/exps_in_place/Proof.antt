@@ -1,3 +1,4 @@
+-- Below i buf holds the exponentials, from i on what it held at the start (`Filled`): so the element read at i is the old one, of which `requires` speaks.
 use Rattle.lists.proofs.Placed.{placed-none, filled-more, filled-end}
 use Prim.Native.Nat.{_-_, _≤_}
 use mathlib.Core.Path.{sym, _∙_}

@@ -6,11 +6,9 @@ use Rattle.softmax.proofs.in_domain.Reads as reads
 use Rattle.softmax.proofs.in_domain.Lts as lts
 use Rattle.floats.proofs.bits.infinity.Reads as infinity-reads
 
--- src/lib.rt:27:9
 infinity-requires : tie.Need-infinity-requires
 infinity-requires c κs = search needs
 
--- src/lib.rt:24:1
 returns : tie.Need-returns
 returns c = below-top _ _ (c .infinity .ensures)
 

@@ -6,11 +6,9 @@ use Rattle.softmax.proofs.is_masked.Reads as reads
 use Rattle.softmax.proofs.is_masked.Lts as lts
 use Rattle.floats.proofs.bits.infinity.Reads as infinity-reads
 
--- src/lib.rt:20:11
 infinity-requires : tie.Need-infinity-requires
 infinity-requires c κs = search needs
 
--- src/lib.rt:17:1
 returns : tie.Need-returns
 returns c = is-bottom _ _ (c .infinity .ensures)
 

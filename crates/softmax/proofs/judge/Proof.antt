@@ -1,3 +1,4 @@
+-- Each return is the first test that holds: `past` passes the limit and the domain; the third, all masked without flush, is read off the two branches.
 use mathlib.Core.List.{List}
 use mathlib.Core.Path.{sym, _∙_}
 use denote.Ref.{now}
@@ -31,11 +32,9 @@ returns : tie.Need-returns
 unfolding inPlaceAnswer
 returns c = gives (stop (lt-ltb _ _ (c .if1 .taken)))
 
--- src/lib.rt:79:9
 first-outside-requires : tie.Need-first-outside-requires
 first-outside-requires c κs = search needs
 
--- src/lib.rt:81:9
 returns-2 : tie.Need-returns-2
 unfolding inPlaceAnswer
 returns-2 c =
@@ -43,25 +42,21 @@ returns-2 c =
     (skip (le-ltb _ _ (c .before .before .if1 .left))
     (found Domain (c .before .first-outside .result) (c .before .first-outside .ensures) (c .if2 .taken)))
 
--- src/lib.rt:84:12
 all-masked-requires : tie.Need-all-masked-requires
 all-masked-requires c κs = search needs
 
--- src/lib.rt:85:13
 returns-3 : tie.Need-returns-3
 unfolding inPlaceAnswer
 returns-3 c =
     let at = c .before .before .before in
     gives (past at (stop (rw (c .before .before .if3 .taken) (sym (c .before .all-masked .ensures) ∙ c .if4 .taken))))
 
--- src/lib.rt:73:1
 returns-4 : tie.Need-returns-4
 unfolding inPlaceAnswer
 returns-4 c =
     let at = c .before .before .before in
     gives (past at (skip (rw (c .before .before .if3 .taken) (sym (c .before .all-masked .ensures) ∙ c .if4 .left)) clear))
 
--- src/lib.rt:73:1
 returns-5 : tie.Need-returns-5
 unfolding inPlaceAnswer
 returns-5 c = gives (past (c .before) (skip (rw (c .if3 .left)) clear))

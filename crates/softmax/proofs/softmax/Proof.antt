@@ -1,3 +1,5 @@
+-- A refusal is the length's, or `judge`'s with nothing written. Where it is done all is in the domain (`done-domain`), so no element less the maximum is
+-- above zero; all masked gives zeros (`result-clear`), and else the passes together are the result (`result-passes`).
 use mathlib.Core.Path.{sym, _∙_, ap}
 use borrow.Author.Tests.{eq-eqb, ne-eqb, not-true, not-false}
 use mathlib.Core.Bool.{not}

@@ -1,3 +1,4 @@
+-- As in `softmax`, with no length to ask about, and each pass over what the one before it left in buf.
 use mathlib.Core.Path.{refl, sym, _∙_}
 use borrow.Author.Tests.{not-true, not-false}
 use denote.Ref.{now}

@@ -1,3 +1,4 @@
+-- Each return tells the first test that holds, with +0, those before it passed (`skip`); where none holds, the fold from +0 that `folded` promises.
 use mathlib.Core.Path.{refl, sym, _∙_, ap}
 use mathlib.Core.Bool.{not}
 use borrow.Author.Tests.{lt-ltb, le-ltb}

@@ -1,3 +1,4 @@
+-- Each return is the first test of the list that holds, those before it passed (`past`, `skip`); past all four the domain holds, and dst is the mapped list.
 use Prim.Native.Nat.{_≤_}
 use mathlib.Core.Bool.{not}
 use mathlib.Core.List.{List}

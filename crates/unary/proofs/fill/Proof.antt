@@ -1,3 +1,4 @@
+-- In each arm op is the case matched, so its loop's map is that of `evalOf op`; what `reduced_range_exp` asks besides, its domain gives (`not-above`).
 use Rattle.unary.proofs.Cases.{not-above}
 use borrow.Author.Needs.{needs}
 use Rattle.unary.proofs.fill.Statement.{statement}

@@ -1,3 +1,4 @@
+-- A NaN, and x from 2^23 on, which is whole, stay as they are; below it the rounded size is few enough for an exact cast and takes x's sign (`to-whole`).
 use Prim.Native.Nat.{_≤_, _%_, _^_}
 use mathlib.Core.Bool.{Bool, true, false}
 use mathlib.Core.Path.{_≡_, refl, sym, subst, _∙_}

@@ -1,3 +1,4 @@
+-- Twice the digits cut off, against 2^cut, says which case of `closest` holds (`closest-by`); the sums fit since the quotient is at most m.
 use Prim.Native.Nat.{_*_, _/_, _%_, _^_, _≤_, _<_, Ordering·lt, Ordering·eq, Ordering·gt}
 use mathlib.Core.Path.{_≡_, sym, _∙_, subst}
 use native.Mathlib.Nat.{mod-le, le-antisymm}

@@ -1,3 +1,5 @@
+-- Each refusal is the first test that holds; the count's is a difference in the code, so that nothing wraps, and a sum in the definition.
+-- Past all of them the three folds are those of `nextOf`, as `folded` and `look` promise them.
 use Prim.Native.Nat.{_+_, _≤_, _<_}
 use mathlib.Core.Path.{sym, _∙_, ap}
 use mathlib.Core.Bool.{not}

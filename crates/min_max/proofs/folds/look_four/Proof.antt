@@ -1,3 +1,4 @@
+-- Each run keeps its two folds up to i (`Chains`), the flag what all four showed (`Looked`); at the end the folds, joined in order, are the fold over all (`chains-end`).
 use Prim.Native.Nat.{_-_}
 use mathlib.Core.Path.{ap}
 use mathlib.Core.Bool.{true, false}

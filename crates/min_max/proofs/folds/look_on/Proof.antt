@@ -1,3 +1,4 @@
+-- What is left of either fold from the value held at i is the whole fold (`extreme-more`), and the flag tells of the elements before i (`Looked`).
 use Prim.Native.Nat.{_-_, _≤_}
 use mathlib.Core.Path.{_≡_, refl, ap, _∙_}
 use mathlib.Core.Bool.{not}

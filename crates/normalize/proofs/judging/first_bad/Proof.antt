@@ -1,3 +1,4 @@
+-- All in use is finite before i (`Passed`): a place where it isn't is the first (`first-at`), and where the loop finds none it is the length (`first-end`).
 use Prim.Native.Nat.{_-_, _≤_}
 use mathlib.Core.Path.{sym, _∙_}
 use lib.ListN.{length}

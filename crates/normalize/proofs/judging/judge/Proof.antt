@@ -1,3 +1,5 @@
+-- Each return is the first test that holds; `past1` to `past5` pass those before it. Where the look shows that nothing is to be searched, both
+-- searches would find nothing (`none-found`). Past the first two tests the slices in use fit (`fitted`), as the callees ask.
 use denote.Ref.{now}
 use mathlib.Core.Path.{sym, _∙_, ap}
 use mathlib.Core.Bool.{not}

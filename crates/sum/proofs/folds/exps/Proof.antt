@@ -1,3 +1,4 @@
+-- The loop keeps `Mapped`: dst holds the exponentials of src below i; with equal lengths there is room for the next, and at the end they are all.
 use Prim.Native.Nat.{_-_}
 use native.Mathlib.Omega.{arith}
 use lib.Ieee.{nan, binary32, sub}
