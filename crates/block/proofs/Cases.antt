@@ -2,7 +2,7 @@
 use mathlib.Core.Path.{_≡_, refl}
 use mathlib.Core.List.{[], _∷_, _++_}
 use lib.ListN.{replicate}
-use Rattle.lists.specs.Index.{tab, sumTo}
+use Rattle.lists.specs.Lists.{tab, sumTo}
 use Rattle.block.specs.Block.{half, bytesOf, checkA, checkB, sealed, blockByte, blocks, heldRows, blockWord, stored, tableByte, tableBytes}
 
 pub one-band : tableBytes 1 1 1 1 (32768 ∷ [])

@@ -8,7 +8,7 @@ use native.Mathlib.Decide.{decLt}
 use mathlib.Core.List.{List}
 use lib.ListN.{getD}
 use borrow.Author.Tests.{lt-ltb, le-ltb, eqb-true}
-use Rattle.lists.specs.Index.{sumTo}
+use Rattle.lists.specs.Lists.{sumTo}
 use Rattle.lists.proofs.First.{first-same}
 use Rattle.lists.proofs.Sum.{sum-same, sum-more}
 use Rattle.block.specs.Block.{rowGain, given, stored}

@@ -4,7 +4,7 @@ use mathlib.Core.Path.{_≡_, sym, ap, _∙_, subst}
 use mathlib.Core.List.{List}
 use native.Mathlib.Omega.{arith}
 use lib.ListN.{length, set}
-use Rattle.lists.specs.Index.{Placed}
+use Rattle.lists.specs.Lists.{Placed}
 use Rattle.lists.proofs.Placed.{placed-more, placed-join}
 use Rattle.block.specs.Block.{checkA, checkB, sealed, blockByte, tableByte}
 use Rattle.block.specs.Read.{bytesFrom}

@@ -5,7 +5,7 @@ use native.Mathlib.Nat.{mul-le-mul-right, suc-mul}
 use native.Mathlib.Numerals.{add-one}
 use native.Mathlib.Omega.{arith}
 use lib.Dec.{eqb}
-use Rattle.lists.specs.Index.{sumTo}
+use Rattle.lists.specs.Lists.{sumTo}
 use Rattle.lists.proofs.Sum.{sum-same}
 use Rattle.block.specs.Write.{rowOk}
 use Rattle.block.specs.Read.{wordAt, gainIn}

@@ -5,7 +5,7 @@ use mathlib.Core.Bool.{Bool, not, _&&_, _||_}
 use mathlib.Core.List.{List, [], _∷_, _++_}
 use lib.ListN.{length, getD}
 use lib.Dec.{ltb, leb, eqb}
-use Rattle.lists.specs.Index.{tab, firstNot}
+use Rattle.lists.specs.Lists.{tab, firstNot}
 use Rattle.answer.specs.Answer.{Test, judged, whenDone}
 use Rattle.answer.specs.declared.Answer.{Answer}
 use Rattle.answer.specs.declared.Refusal.the-variants.{Length, StoredLength, RowTotal, Check, Header, Unused}

@@ -4,7 +4,7 @@ use mathlib.Core.Bool.{Bool, not, _&&_}
 use mathlib.Core.List.{List, [], _∷_}
 use lib.ListN.{length, getD}
 use lib.Dec.{ltb, leb, eqb}
-use Rattle.lists.specs.Index.{sumTo, firstNot}
+use Rattle.lists.specs.Lists.{sumTo, firstNot}
 use Rattle.answer.specs.Answer.{Test, judged, toldOf, whenDone}
 use Rattle.answer.specs.declared.Answer.{Answer}
 use Rattle.answer.specs.declared.Refusal.the-variants.{Count, Length, StoredLength, RowTotal}

@@ -2,7 +2,7 @@
 ghost use mathlib.Core.Path.{_≡_};
 ghost use Prim.Native.Nat.{ℕ, _+_, _*_, _≤_};
 ghost use lib.ListN.{length};
-ghost use Rattle.lists.specs.Index.{sumTo};
+ghost use Rattle.lists.specs.Lists.{sumTo};
 ghost use Rattle.answer.specs.Limits.{parts};
 ghost use Rattle.block.specs.Write.{badRow, gainOf};
 ghost use Rattle.block.specs.Read.{bytesFrom, wordAt, gainIn};

@@ -2,7 +2,7 @@
 ghost use mathlib.Core.Path.{_≡_};
 ghost use Prim.Native.Nat.{_+_, _*_, _<_, _≤_};
 ghost use lib.ListN.{length};
-ghost use Rattle.lists.specs.Index.{Placed};
+ghost use Rattle.lists.specs.Lists.{Placed};
 ghost use Rattle.block.specs.Block.{perBlock, blocks, heldRows, blockWord, stored, tableByte, tableBytes};
 ghost use Rattle.block.specs.Asked.{Storable};
 use crate::counts::blocks_of;

@@ -10,9 +10,9 @@ use lib.ListN.{length, length-append}
 use lib.Dec.{leb}
 use borrow.Author.Tests.{leb-true, le-leb, lt-leb}
 use Rattle.io.specs.Digits.{glyph, digits, Fewest}
-use Rattle.lists.specs.Index.{firstNot}
+use Rattle.lists.specs.Lists.{firstNot}
 use Rattle.lists.proofs.First.{first-at, first-passed}
-use Rattle.digits.specs.Text.{placesOf, decimalOf}
+use Rattle.digits.specs.Digits.{placesOf, decimalOf}
 
 below-power : (i : ℕ) → i < 10 ^ i
 below-power zero = omega (arith, pow-zero 10)

@@ -3,7 +3,7 @@ use mathlib.Core.Bool.{cond}
 use lib.Ieee.{Float, binary32, add, sub, mul, div, neg, lt}
 use Rattle.floats.specs.Values.{zeroF, oneF, halfF}
 use Rattle.consts.specs.Consts.{erfP, erfA0, erfA1, erfA2, erfA3, erfA4, sqrt2Rcp, sqrt2Pi, geluCube}
-use Rattle.floats.specs.Float.{mulAdd, absOf}
+use Rattle.floats.specs.Floats.{mulAdd, absOf}
 use Rattle.exp.specs.Exp.{reducedRangeExpOf}
 use Rattle.tanh.specs.Tanh.{tanhOf}
 

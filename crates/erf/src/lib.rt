@@ -1,6 +1,6 @@
 // erf.rs of rten-vecmath, one element at a time. For the crates above.
 ghost use mathlib.Core.Path.{_≡_};
-ghost use Rattle.floats.specs.Float.{absOf};
+ghost use Rattle.floats.specs.Floats.{absOf};
 ghost use Rattle.erf.specs.Erf.{ratioOf, polyOf, sizeOf, erfOf, geluOf, approxGeluOf};
 use consts::ERF_A0;
 use consts::ERF_A1;

@@ -10,7 +10,7 @@ use lib.Ieee.Bits.{is-true}
 use lib.Ieee.Fits.{add-fits}
 use Rattle.floats.specs.Values.{zeroF}
 use Rattle.consts.specs.Consts.{invLog2, roundingMagic, expOverflow, expUnderflow, expLowerCutoff}
-use Rattle.floats.specs.Float.{mulAdd}
+use Rattle.floats.specs.Floats.{mulAdd}
 use Rattle.floats.specs.Words.{subWord, truncWord, above0}
 use Rattle.floats.proofs.Monotone.{mul-mono-r, add-mono}
 use Rattle.floats.proofs.NoNan.{add-number, mul-number}

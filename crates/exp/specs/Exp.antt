@@ -4,7 +4,7 @@ use mathlib.Core.Bool.{false, cond}
 use lib.Ieee.{Float, inf, binary32, add, sub, mul, div, neg, le, lt}
 use Rattle.floats.specs.Values.{f32, zeroF, oneF}
 use Rattle.consts.specs.Consts.{invLog2, roundingMagic, log2Hi, log2Lo, expPoly0, expPoly1, expPoly2, expPoly3, expPoly4, expPoly5, expPoly6, expOverflow, expUnderflow, expLowerCutoff}
-use Rattle.floats.specs.Float.{mulAdd}
+use Rattle.floats.specs.Floats.{mulAdd}
 use Rattle.floats.specs.Words.{addWord, subWord, shl23, above0, truncWord}
 
 -- j, the whole number nearest to x / ln 2

@@ -11,7 +11,7 @@ use lib.Ieee.Scale.{finite}
 use Rattle.floats.specs.Values.{f32, zeroF, oneF, thirtyTwoF}
 use Rattle.consts.specs.Consts.{invLog2, roundingMagic, log2Hi, log2Lo, expLowerCutoff}
 use Rattle.exp.specs.Exp.{restOf, iaOf}
-use Rattle.floats.specs.Float.{mulAdd}
+use Rattle.floats.specs.Floats.{mulAdd}
 use Rattle.floats.specs.Words.{addWord, subWord, shl23, truncWord}
 use Rattle.lists.proofs.Tests.{allOf, allBelow, below-at, holds, where-holds}
 use Rattle.exp_facts.proofs.Poly.{restLow, restHigh, polyTop}

@@ -15,7 +15,7 @@ use lib.Ieee.Scale.{finite}
 use Rattle.consts.specs.Consts.{invLog2, roundingMagic, log2Hi, log2Lo, expOverflow, expUnderflow}
 use Rattle.exp.specs.Exp.{restOf}
 use Rattle.floats.specs.Values.{zeroF}
-use Rattle.floats.specs.Float.{mulAdd}
+use Rattle.floats.specs.Floats.{mulAdd}
 use Rattle.floats.proofs.Sign.{finite-number}
 use Rattle.floats.proofs.Signed.{le→⊑}
 use Rattle.floats.proofs.Order.{le-trans-f, le-refl-f, le-total, finite-between}

@@ -8,7 +8,7 @@ use lib.Ieee.Scale.{finite}
 use Rattle.consts.specs.Consts.{invLog2, roundingMagic, log2Hi, expOverflow, expUnderflow, expLowerCutoff}
 use Rattle.exp.specs.Exp.{jOf, restOf, polyOf, scaleOf}
 use Rattle.floats.specs.Values.{zeroF, oneF, thirtyTwoF}
-use Rattle.floats.specs.Float.{mulAdd}
+use Rattle.floats.specs.Floats.{mulAdd}
 use Rattle.floats.specs.Words.{truncWord}
 use Rattle.floats.proofs.Order.{le-trans-f}
 use Rattle.floats.proofs.Between.{scaled-between, Between, between-wider}

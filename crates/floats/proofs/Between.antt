@@ -7,7 +7,7 @@ use lib.Dec.{T}
 use lib.Ieee.{Float, binary32, add, sub, mul, neg, le, ofBits}
 use lib.Ieee.Fits.{and-l, and-r}
 use lib.Ieee.Scale.{finite}
-use Rattle.floats.specs.Float.{mulAdd}
+use Rattle.floats.specs.Floats.{mulAdd}
 use Rattle.floats.proofs.Sign.{finite-number}
 use Rattle.floats.proofs.Signed.{le-neg}
 use Rattle.floats.proofs.Order.{le-trans-f, le-refl-f, le-total, finite-between}

@@ -14,7 +14,7 @@ use lib.Ieee.Nearest.{closest, closest-same, closest-mono}
 use lib.Ieee.Positive.{num, den, den-pos, value→cross}
 use lib.Ieee.Scale.{finite}
 use borrow.Author.Tests.{ne-eqb, lt-leb}
-use Rattle.floats.specs.Float.{absOf, roundEven}
+use Rattle.floats.specs.Floats.{absOf, roundEven}
 use Rattle.floats.proofs.Pattern.{SignBit, sign-is, abs-bits}
 use Rattle.floats.proofs.Whole.{unscale, whole-stays}
 

@@ -4,7 +4,7 @@ use mathlib.Core.Bool.{Bool, true, false, cond, false≢true}
 use lib.Dec.{eqb}
 use lib.Ieee.{Float, nan, inf, fin, Format, add, sub, mul, neg}
 use lib.Ieee.Scale.{finite}
-use Rattle.floats.specs.Float.{absOf}
+use Rattle.floats.specs.Floats.{absOf}
 
 pub add-finite : (f : Format) (x y : Float) → finite (add f x y) ≡ true → (finite x ≡ true) × (finite y ≡ true)
 unfolding add

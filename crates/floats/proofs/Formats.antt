@@ -10,7 +10,7 @@ use lib.Ieee.{Float, fin, Format, binary32, binary64, prec, emax, low, up, down,
 use lib.Ieee.Exact.{HasValue}
 use lib.Ieee.Nearest.{closest}
 use lib.Ieee.Scale.{finite, grid}
-use Rattle.floats.specs.Float.{roundEven}
+use Rattle.floats.specs.Floats.{roundEven}
 use Rattle.floats.specs.Fraction.{Frac, frac, _⊑_, _⊕_, _⊗_}
 use Rattle.floats.proofs.Signed.{Rounds, rounds-mono}
 use Rattle.floats.proofs.Order.{Zeros, le-antisym}

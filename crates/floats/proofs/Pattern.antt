@@ -10,7 +10,7 @@ use lib.Ieee.Bits.{ofBits-toBits, toBits-lt, nanBits-is, nanBits-above}
 use lib.Ieee.Compare.{differs-from-itself}
 use lib.Ieee.Scale.{finite}
 use borrow.Author.Tests.{eq-eqb, lt-ltb, le-ltb}
-use Rattle.floats.specs.Float.{absOf}
+use Rattle.floats.specs.Floats.{absOf}
 
 -- ---- no NaN
 

@@ -13,7 +13,7 @@ use lib.Ieee.Exact.{HasValue, round-exact}
 use lib.Ieee.Fits.{and-i, down-pos, nan-fits, inf-fits, round-fits, fits-widens}
 use lib.Ieee.Nearest.{closest, closest-same}
 use borrow.Author.Tests.{le-leb}
-use Rattle.floats.specs.Float.{roundEven}
+use Rattle.floats.specs.Floats.{roundEven}
 use Rattle.floats.proofs.Exact.{down-low, expo}
 use Rattle.floats.proofs.Sign.{round-zero}
 use Rattle.floats.proofs.Whole.{round-even-value}

@@ -10,7 +10,7 @@ use lib.Dec.{T}
 use lib.Ieee.{Float, nan, inf, fin, Format, up, down, sum, sub, mul, lt, fits, ofBits}
 use lib.Ieee.Fits.{down-pos}
 use borrow.Author.Tests.{lt-ltb}
-use Rattle.floats.specs.Float.{absOf}
+use Rattle.floats.specs.Floats.{absOf}
 use Rattle.floats.proofs.Exact.{round-self, zero-unique, sub-self-f}
 use Rattle.floats.proofs.Pattern.{fits-sign}
 use Rattle.floats.specs.Values.{zeroF}

@@ -16,7 +16,7 @@ use lib.Ieee.Fits.{round-is, down-pos, nearest-le}
 use lib.Ieee.Nearest.{nearest-ge, closest, closest-same}
 use lib.Ieee.Scale.{round-same}
 use borrow.Author.Tests.{le-ltb, lt-ltb}
-use Rattle.floats.specs.Float.{roundEven}
+use Rattle.floats.specs.Floats.{roundEven}
 use Rattle.floats.proofs.Near.{closest-exact}
 use Rattle.floats.proofs.Exact.{round-self, down-low}
 

@@ -1,4 +1,4 @@
 pub mod Words
 pub mod Values
-pub mod Float
+pub mod Floats
 pub mod Fraction

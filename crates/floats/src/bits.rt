@@ -3,7 +3,7 @@ ghost use mathlib.Core.Path.{_≡_};
 ghost use mathlib.Core.Bool.{false};
 ghost use lib.Ieee.{binary32, inf, ofBits, toBits};
 ghost use lib.Ieee.Scale.{finite};
-ghost use Rattle.floats.specs.Float.{absOf};
+ghost use Rattle.floats.specs.Floats.{absOf};
 
 // The least finite f32, Rust's `f32::MIN`.
 pub const F32_MIN: f32 = -340282346638528859811704183484516925440.0;

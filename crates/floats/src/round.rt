@@ -4,7 +4,7 @@ ghost use Prim.Native.Nat.{_^_, _≤_, _<_};
 ghost use lib.Ieee.{binary32, ofBits};
 ghost use lib.Ieee.Nearest.{closest};
 ghost use lib.Ieee.Positive.{num, den};
-ghost use Rattle.floats.specs.Float.{roundEven};
+ghost use Rattle.floats.specs.Floats.{roundEven};
 
 // The whole number nearest to m / 2^cut: the digits past the point are cut off, and twice what they make is held against 1.
 fn rounded(m: u32, cut: u32) -> u32

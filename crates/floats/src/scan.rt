@@ -3,7 +3,7 @@ ghost use mathlib.Core.Bool.{false, true};
 ghost use mathlib.Core.Path.{_≡_};
 ghost use Prim.Native.Nat.{ℕ, _<_};
 ghost use lib.ListN.{length};
-ghost use Rattle.floats.specs.Float.{finiteAt, firstNotFinite};
+ghost use Rattle.floats.specs.Floats.{finiteAt, firstNotFinite};
 use crate::bits::is_finite;
 
 // A look at all elements with no early end, so that it runs in lanes.

@@ -3,10 +3,10 @@ use mathlib.Core.Path.{_≡_, refl, sym}
 use mathlib.Core.List.{[], _∷_}
 use native.Mathlib.Omega.{arith}
 use lib.Dec.{lit<, lit≤}
-use Rattle.digits.specs.Text.{decimalOf}
+use Rattle.digits.specs.Digits.{decimalOf}
 use Rattle.digits.proofs.Places.{decimal-is}
 use Rattle.lister_core.specs.Lines.{pairLine, gainsText, rowLine}
-use Rattle.lister_core.specs.Listed.{rowsText, tableText}
+use Rattle.lister_core.specs.Lister.{rowsText, tableText}
 
 zero-text : decimalOf 0 ≡ 48 ∷ []
 zero-text = sym (decimal-is 0 1 (48 ∷ []) (lit≤ tt, lit< tt, λ h. absurd (omega arith)) refl)

@@ -6,7 +6,7 @@ use native.Mathlib.Numerals.{add-one}
 use native.Mathlib.Omega.{arith}
 use lib.ListN.{length, take, getD}
 use lib.Seq.{take-suc, take-all}
-use Rattle.digits.specs.Text.{decimalOf, Wrote}
+use Rattle.digits.specs.Digits.{decimalOf, Wrote}
 use Rattle.digits.proofs.Written.{written-none, wrote-join}
 use Rattle.lister_core.specs.Lines.{space, lineFeed, pairLine, gainsText, rowLine}
 use Rattle.lister_core.proofs.Room.{Puts, Put, put-short, put-join, put-then, digits-then}

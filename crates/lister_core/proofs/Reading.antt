@@ -17,7 +17,7 @@ use Rattle.table.specs.declared.TableAnswer.the-variants as table
 use Rattle.table.proofs.Readable.{judged-reads, reads-known}
 use Rattle.table.proofs.Form1.{sound}
 use Rattle.lister_core.specs.Lines.{refusedLine}
-use Rattle.lister_core.specs.Listed.{tableText, answerText, listedBy, listed}
+use Rattle.lister_core.specs.Lister.{tableText, answerText, listedBy, listed}
 
 -- the input is too long
 pub too-long : (s : List ℕ) → tableLimit < length s → refusedLine 9 0 ≡ listed s

@@ -8,10 +8,10 @@ use native.Mathlib.Omega.{arith}
 use lib.ListN.{length, take, drop, length-drop}
 use lib.Seq.{length-take-le}
 use Rattle.answer.specs.Limits.{bandLimit, lineRoom}
-use Rattle.digits.specs.Text.{Wrote}
+use Rattle.digits.specs.Digits.{Wrote}
 use Rattle.digits.proofs.Written.{written-none, wrote-join}
 use Rattle.lister_core.specs.Lines.{headLine, rowLine}
-use Rattle.lister_core.specs.Listed.{rowsText, tableText}
+use Rattle.lister_core.specs.Lister.{rowsText, tableText}
 use Rattle.lister_core.proofs.Room.{Put}
 
 -- no row yet

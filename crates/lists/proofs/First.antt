@@ -6,7 +6,7 @@ use native.Mathlib.Omega.{arith}
 use borrow.Author.Count.{below-none, below-more}
 use borrow.Author.Tests.{le-leb, lt-leb, leb-true}
 use lib.Dec.{leb}
-use Rattle.lists.specs.Index.{firstNot}
+use Rattle.lists.specs.Lists.{firstNot}
 
 -- p passes every place below i. (The kit's `below-none` and `below-more` are its laws in a loop.)
 abbrev pub Passed : (ℕ → Bool) → ℕ → Type 0

@@ -4,7 +4,7 @@ use mathlib.Core.Path.{_≡_, sym, _∙_}
 use mathlib.Core.List.{List, map}
 use native.Mathlib.Omega.{arith}
 use lib.ListN.{length, getD, set}
-use Rattle.lists.specs.Index.{Filled}
+use Rattle.lists.specs.Lists.{Filled}
 use Rattle.lists.proofs.Placed.{placed-none, placed-more, filled-all}
 use Rattle.lists.proofs.Tab.{tab-map}
 

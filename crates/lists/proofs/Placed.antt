@@ -8,7 +8,7 @@ use native.Mathlib.Nat.{eq-or-lt-of-le}
 use native.Mathlib.Omega.{arith}
 use lib.ListN.{length, getD, set, length-set}
 use lib.Seq.{getD-set-same, getD-set-other, ext-getD}
-use Rattle.lists.specs.Index.{tab, Placed, Filled}
+use Rattle.lists.specs.Lists.{tab, Placed, Filled}
 use Rattle.lists.proofs.Tab.{tab-is}
 
 module _ {A : Type 0} {z : A} where

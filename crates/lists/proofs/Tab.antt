@@ -6,7 +6,7 @@ use native.Mathlib.Nat.{le-of-suc-le-suc, not-suc-le-zero}
 use native.Mathlib.Omega.{arith}
 use lib.ListN.{length, getD, replicate}
 use lib.Seq.{ext-getD}
-use Rattle.lists.specs.Index.{tab}
+use Rattle.lists.specs.Lists.{tab}
 
 module _ {A : Type 0} where
   pub tab-length : (f : ℕ → A) (n : ℕ) → length (tab f n) ≡ n

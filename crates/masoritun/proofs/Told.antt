@@ -15,7 +15,7 @@ use Rattle.table.specs.declared.TableAnswer.the-variants as table
 use Rattle.table.specs.declared.BlockAnswer.{BlockAnswer}
 use Rattle.table.specs.declared.BlockAnswer.the-variants as block
 use Rattle.table.proofs.Place.{read-told-place, block-told-place}
-use Rattle.pack.specs.Packed.{packed, whenZero}
+use Rattle.pack.specs.Pack.{packed, whenZero}
 use Rattle.pack.proofs.Packing.{old-left}
 
 -- a table

@@ -1,7 +1,7 @@
 // One feeding of a meter whose four numbers the caller keeps. A refusal leaves them.
 ghost use mathlib.Core.Path.{_≡_};
-ghost use Rattle.pack.specs.Packed.{packed};
-ghost use Rattle.masoritun.specs.Lent.{meterAt, leftOf};
+ghost use Rattle.pack.specs.Pack.{packed};
+ghost use Rattle.masoritun.specs.Masoritun.{meterAt, leftOf};
 ghost use Rattle.meter.specs.Meter.{feedOf, fedTold};
 use answer::Answer;
 use meter::Fed;

@@ -1,6 +1,6 @@
 // The extremes. Their numbers are part of the answer: written on every call, +0 where refused.
 ghost use mathlib.Core.Path.{_≡_};
-ghost use Rattle.pack.specs.Packed.{packed};
+ghost use Rattle.pack.specs.Pack.{packed};
 ghost use Rattle.min_max.specs.MinMax.{minMaxTold, maxNumTold, minNumTold};
 use pack::pack;
 

@@ -1,8 +1,8 @@
 // Normalize, from one slice into another and in place. An absent per-element slice is not looked at.
 ghost use mathlib.Core.Path.{_≡_};
-ghost use Rattle.masoritun.specs.Lent.{settingsAt};
-ghost use Rattle.pack.specs.Packed.{packed};
-ghost use Rattle.normalize.specs.Normal.{normalizeTold, normalizeOut, inPlaceTold, inPlaceOut};
+ghost use Rattle.masoritun.specs.Masoritun.{settingsAt};
+ghost use Rattle.pack.specs.Pack.{packed};
+ghost use Rattle.normalize.specs.Normalize.{normalizeTold, normalizeOut, inPlaceTold, inPlaceOut};
 use normalize::Settings;
 use pack::pack;
 

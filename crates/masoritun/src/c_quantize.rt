@@ -1,7 +1,7 @@
 // Quantize to u8.
 ghost use mathlib.Core.Path.{_≡_};
-ghost use Rattle.pack.specs.Packed.{packed};
-ghost use Rattle.quantize.specs.Code.{quantizeTold, quantizeOut};
+ghost use Rattle.pack.specs.Pack.{packed};
+ghost use Rattle.quantize.specs.Quantize.{quantizeTold, quantizeOut};
 use pack::pack;
 
 #[no_mangle]

@@ -1,6 +1,6 @@
 // Softmax, from one slice into another and in place.
 ghost use mathlib.Core.Path.{_≡_};
-ghost use Rattle.pack.specs.Packed.{packed};
+ghost use Rattle.pack.specs.Pack.{packed};
 ghost use Rattle.softmax.specs.Softmax.{softmaxTold, softmaxOut, inPlaceTold, inPlaceOut};
 use pack::pack;
 

@@ -1,6 +1,6 @@
 // The split of band levels into gains.
 ghost use mathlib.Core.Path.{_≡_};
-ghost use Rattle.pack.specs.Packed.{packed};
+ghost use Rattle.pack.specs.Pack.{packed};
 ghost use Rattle.split.specs.Split.{splitTold, splitOut};
 use pack::pack;
 

@@ -1,6 +1,6 @@
 // The sums: `sum::add_up` by its own name for each. `result` is part of the answer: written on every call, +0 where refused.
 ghost use mathlib.Core.Path.{_≡_};
-ghost use Rattle.pack.specs.Packed.{packed};
+ghost use Rattle.pack.specs.Pack.{packed};
 ghost use Rattle.sum.specs.Sum.{addUpTold};
 ghost use Rattle.sum.specs.declared.SumOp.the-variants.{Sum, SumSquare, SumAbs, SumSquareSub, SumExpSub};
 use pack::pack;

@@ -1,6 +1,6 @@
 // The stored table. On a refusal the lent bytes, gains and numbers stay.
 ghost use mathlib.Core.Path.{_≡_};
-ghost use Rattle.pack.specs.Packed.{packed, whenZero};
+ghost use Rattle.pack.specs.Pack.{packed, whenZero};
 ghost use Rattle.table.specs.Release.{writeTold, writeOut, blockTold, readTold, readOut};
 use answer::Answer;
 use pack::pack;

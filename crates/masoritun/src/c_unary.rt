@@ -1,6 +1,6 @@
 // The operators: `unary::apply` by its own name for each.
 ghost use mathlib.Core.Path.{_≡_};
-ghost use Rattle.pack.specs.Packed.{packed};
+ghost use Rattle.pack.specs.Pack.{packed};
 ghost use Rattle.unary.specs.Unary.{applyTold, applyOut};
 ghost use Rattle.unary.specs.declared.Op.the-variants.{Exp, ReducedRangeExp, Sigmoid, Silu, Swish, Elu, Tanh, Erf, Gelu, ApproxGelu, Sin, Cos};
 use pack::pack;

@@ -9,7 +9,7 @@ use lib.Ieee.{Float}
 use lib.ListN.{length}
 use borrow.Author.Tests.{ltb-false, le-ltb, not-false}
 use Rattle.lists.proofs.First.{Passed, first-clear}
-use Rattle.floats.specs.Float.{finiteAt, firstNotFinite}
+use Rattle.floats.specs.Floats.{finiteAt, firstNotFinite}
 use Rattle.answer.specs.Answer.{judged}
 use Rattle.answer.specs.Limits.{elementLimit}
 use Rattle.answer.specs.declared.Answer.{Answer}

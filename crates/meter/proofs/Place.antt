@@ -10,7 +10,7 @@ use Rattle.answer.specs.declared.Answer.{Answer}
 use Rattle.answer.specs.declared.Answer.the-variants.{Done, Refused as No}
 use Rattle.answer.specs.Limits.{elementLimit}
 use Rattle.answer.proofs.Bounded.{place-bounded}
-use Rattle.floats.specs.Float.{firstNotFinite}
+use Rattle.floats.specs.Floats.{firstNotFinite}
 use Rattle.meter.specs.Meter.{tests, nextOf, fedBy, feedOf, fedTold}
 use Rattle.meter.specs.declared.Meter.{Meter}
 

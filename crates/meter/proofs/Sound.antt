@@ -9,7 +9,7 @@ use lib.Ieee.Bits.{is-true}
 use lib.Ieee.Fits.{and-l, and-r, and-i}
 use lib.ListN.{length, getD}
 use Rattle.lists.proofs.First.{Passed}
-use Rattle.floats.specs.Float.{finiteAt}
+use Rattle.floats.specs.Floats.{finiteAt}
 use Rattle.floats.proofs.Sign.{finite-number}
 use Rattle.floats.proofs.Order.{le-numbers, lt→nle, nlt→le}
 use Rattle.floats.proofs.NotNegative.{square-add-le}

@@ -13,7 +13,7 @@ use Rattle.answer.specs.declared.Answer.the-variants.{Done, Refused as No}
 use Rattle.answer.specs.declared.Refusal.the-variants.{TooMany, NotFinite, Domain}
 use Rattle.floats.specs.Values.{zeroF}
 use Rattle.min_max.specs.MinMax.{leastFrom, largestFrom}
-use Rattle.floats.specs.Float.{firstNotFinite}
+use Rattle.floats.specs.Floats.{firstNotFinite}
 use Rattle.sum.specs.Sum.{sumFrom}
 use Rattle.sum.specs.declared.SumOp.the-variants.{SumSquare}
 use Rattle.meter.specs.declared.Meter.{Meter}

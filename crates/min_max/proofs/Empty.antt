@@ -3,7 +3,7 @@ use mathlib.Core.Path.{_≡_, refl}
 use mathlib.Core.Bool.{true, false}
 use mathlib.Core.List.{[]}
 use lib.Ieee.{inf}
-use Rattle.lists.specs.Index.{firstNot}
+use Rattle.lists.specs.Lists.{firstNot}
 use Rattle.answer.specs.Answer.{judged}
 use Rattle.min_max.specs.MinMax.{extremeFrom, extremesAnswer, minMaxTold, maxNumTold, minNumTold}
 

@@ -5,7 +5,7 @@ use mathlib.Core.List.{List, [], _∷_, foldl}
 use lib.Dec.{ltb}
 use lib.Ieee.{Float, nan, inf, lt, isNan}
 use lib.ListN.{length, getD}
-use Rattle.lists.specs.Index.{firstNot}
+use Rattle.lists.specs.Lists.{firstNot}
 use Rattle.answer.specs.Answer.{Test, judged, toldOf, toldWith}
 use Rattle.answer.specs.Limits.{elementLimit}
 use Rattle.answer.specs.declared.Answer.{Answer}

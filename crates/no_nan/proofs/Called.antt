@@ -24,7 +24,7 @@ use Rattle.lists.proofs.First.{first-clear}
 use Rattle.lists.proofs.Tab.{tab-at, tab-length, tab-map}
 use Rattle.unary.specs.Unary.{evalOf, inDomain, alphaOk, firstOutside, tests, applyAnswer, applyTold, applyOut}
 use Rattle.unary.specs.declared.Op.{Op}
-use Rattle.no_nan.specs.Claims.{Given, Fits, Number, Finite, alphaFits, staysFinite}
+use Rattle.no_nan.specs.NoNan.{Given, Fits, Number, Finite, alphaFits, staysFinite}
 use Rattle.no_nan.proofs.NoNan.{no-nan, stays-finite}
 
 -- what holds of f at each element holds of each element of the mapped list

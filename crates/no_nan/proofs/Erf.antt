@@ -12,7 +12,7 @@ use Rattle.floats.specs.Values.{zeroF, oneF, minusOneF, twoF, halfF, f32Min, f3
 use Rattle.consts.specs.Consts.{erfP, erfA0, erfA1, erfA2, erfA3, erfA4, sqrt2Rcp, sqrt2Pi, geluCube}
 use Rattle.erf.specs.Erf.{ratioOf, polyOf, sizeOf, erfOf, geluOf, innerOf, approxGeluOf}
 use Rattle.exp.specs.Exp.{reducedRangeExpOf}
-use Rattle.floats.specs.Float.{mulAdd, absOf}
+use Rattle.floats.specs.Floats.{mulAdd, absOf}
 use Rattle.floats.proofs.Magnitude.{below-fin, mul-below}
 use Rattle.floats.proofs.Monotone.{mul-rounds}
 use Rattle.floats.proofs.NoNan.{add-number, mul-number, rounds-number}
@@ -25,7 +25,7 @@ use Rattle.floats.proofs.Largest.{fits-between}
 use Rattle.tanh.specs.Tanh.{tanhOf}
 use Rattle.lists.proofs.Tests.{allOf}
 use Rattle.exp_facts.proofs.Facts.{reduced-between}
-use Rattle.no_nan.specs.Claims.{Number}
+use Rattle.no_nan.specs.NoNan.{Number}
 use Rattle.no_nan.proofs.Tanh.{tanh-between}
 
 -- ---- t = 1 / (1 + p x), from 0 to 1

@@ -15,7 +15,7 @@ use Rattle.floats.proofs.Between.{Between, between-finite, between-wider, sub-b
 use Rattle.floats.proofs.Largest.{fits-between, div-finite}
 use Rattle.lists.proofs.Tests.{allOf}
 use Rattle.exp_facts.proofs.Facts.{exp-above, exp-at-most-0}
-use Rattle.no_nan.specs.Claims.{Number}
+use Rattle.no_nan.specs.NoNan.{Number}
 
 -- ---- 1 + e ^ -x is 1 at least
 under : (x : Float) → Number x → T (le oneF (add binary32 oneF (expOf (neg x))))

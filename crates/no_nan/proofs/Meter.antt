@@ -10,7 +10,7 @@ use Rattle.meter.specs.Meter.{nextOf}
 use Rattle.meter.specs.declared.Meter.{Meter}
 use Rattle.meter.proofs.Feed.{accepted}
 use Rattle.meter.proofs.Sound.{next-parts}
-use Rattle.no_nan.specs.Claims.{Number}
+use Rattle.no_nan.specs.NoNan.{Number}
 use Rattle.no_nan.specs.Kernels.{FedNumbers}
 
 pub feed-no-nan : (m : Meter) (s : List Float) → FedNumbers m s

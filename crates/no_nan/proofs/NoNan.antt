@@ -20,7 +20,7 @@ use Rattle.unary.specs.Unary.{evalOf, alsoIn}
 use Rattle.unary.specs.declared.Op.{Op}
 use Rattle.unary.specs.declared.Op.the-variants.{Exp, ReducedRangeExp, Sigmoid, Silu, Swish, Elu, Tanh, Erf, Gelu, ApproxGelu, Sin, Cos}
 use Rattle.exp_facts.proofs.Facts.{exp-number, reduced-between}
-use Rattle.no_nan.specs.Claims.{Given, Number, alphaFits, staysFinite}
+use Rattle.no_nan.specs.NoNan.{Given, Number, alphaFits, staysFinite}
 use Rattle.no_nan.proofs.ExpFamily.{sigmoid-between, silu-finite, swish-finite, elu-number, elu-finite}
 use Rattle.no_nan.proofs.Tanh.{tanh-between}
 use Rattle.no_nan.proofs.Erf.{erf-between, gelu-finite, approx-gelu-finite}

@@ -16,7 +16,7 @@ use Rattle.answer.specs.declared.Answer.the-variants.{Done}
 use Rattle.answer.specs.declared.Refusal.the-variants.{Length}
 use Rattle.answer.proofs.Chain.{opened}
 use Rattle.normalize.specs.declared.Settings.{Settings}
-use Rattle.normalize.specs.Normal.{resultAt, results, resultNumber, firstNanResult, tests, inPlaceAnswer, normalizeAnswer}
+use Rattle.normalize.specs.Normalize.{resultAt, results, resultNumber, firstNanResult, tests, inPlaceAnswer, normalizeAnswer}
 use Rattle.normalize.proofs.Passing.{passing}
 use Rattle.no_nan.specs.Kernels.{Numbers, InPlaceNumbers, NormalizeNumbers}
 

@@ -12,7 +12,7 @@ use lib.Ieee.Nearest.{closest, closest-mono}
 use lib.Ieee.Scale.{finite}
 use Rattle.floats.specs.Values.{zeroF, oneF}
 use Rattle.consts.specs.Consts.{pi, minusPi, inv2Pi, halfPi, twoPiHi, twoPiLo, sinA3, sinA5, sinB2, sinB4, largeThreshold}
-use Rattle.floats.specs.Float.{mulAdd, absOf, roundEven}
+use Rattle.floats.specs.Floats.{mulAdd, absOf, roundEven}
 use Rattle.floats.proofs.Magnitude.{Below, below-fin, below-mono, between-below, round-below, mul-below, add-below, sub-below, div-below}
 use Rattle.floats.proofs.Near.{closest-exact}
 use Rattle.floats.proofs.NotNegative.{square-le, add-le, mul-le}

@@ -9,7 +9,7 @@ use lib.Ieee.{Float, binary32, ofBits, sub, le, isNan}
 use lib.Ieee.Scale.{finite}
 use borrow.Author.Tests.{ltb-false, not-false}
 use Rattle.lists.proofs.First.{first-clear}
-use Rattle.floats.specs.Float.{absOf}
+use Rattle.floats.specs.Floats.{absOf}
 use Rattle.floats.proofs.Sign.{finite-number}
 use Rattle.floats.proofs.Order.{le-numbers}
 use Rattle.floats.proofs.NoNan.{add-number, sub-number}
@@ -22,7 +22,7 @@ use Rattle.sum.proofs.Fold.{sum-keeps}
 use Rattle.sum.specs.Sum.{stepOf, sumFrom, offsetOk, addUpAnswer}
 use Rattle.sum.specs.declared.SumOp.{SumOp}
 use Rattle.sum.specs.declared.SumOp.the-variants.{Sum, SumSquare, SumAbs, SumSquareSub, SumExpSub}
-use Rattle.no_nan.specs.Claims.{Number}
+use Rattle.no_nan.specs.NoNan.{Number}
 use Rattle.no_nan.specs.Kernels.{SumNumber}
 
 -- what the held sum stays: a number, and but for `Sum` one that is not below zero

@@ -9,7 +9,7 @@ use lib.Ieee.Scale.{finite}
 use Rattle.floats.specs.Values.{zeroF, oneF, minusOneF, twoF, thirtyTwoF}
 use Rattle.consts.specs.Consts.{tanhCutoff, tanhTiny, tanhSmall, tanhP1, tanhP3, tanhP5, tanhP7, tanhP9}
 use Rattle.exp.specs.Exp.{expOf}
-use Rattle.floats.specs.Float.{absOf}
+use Rattle.floats.specs.Floats.{absOf}
 use Rattle.floats.proofs.Monotone.{add-mono}
 use Rattle.floats.proofs.NotNegative.{abs-le}
 use Rattle.floats.proofs.Order.{le-trans-f, le-refl-f, le-numbers, not-le}
@@ -22,7 +22,7 @@ use Rattle.tanh.specs.Tanh.{smallOf, mediumOf, sizeOf, tanhOf}
 use Rattle.lists.proofs.Tests.{allOf}
 use Rattle.exp_facts.proofs.Cells.{large}
 use Rattle.exp_facts.proofs.Facts.{exp-at-most-32}
-use Rattle.no_nan.specs.Claims.{Number}
+use Rattle.no_nan.specs.NoNan.{Number}
 
 -- ---- up to 0.55: the polynomial of the square, times the size
 abbrev rows : List Row

@@ -12,9 +12,9 @@ use Rattle.sum.specs.declared.SumOp.{SumOp}
 use Rattle.meter.specs.Meter.{feedOf}
 use Rattle.meter.specs.declared.Meter.{Meter}
 use Rattle.meter.specs.declared.Fed.the-variants.{Next}
-use Rattle.normalize.specs.Normal.{inPlaceAnswer, inPlaceOut, normalizeAnswer, normalizeOut}
+use Rattle.normalize.specs.Normalize.{inPlaceAnswer, inPlaceOut, normalizeAnswer, normalizeOut}
 use Rattle.normalize.specs.declared.Settings.{Settings}
-use Rattle.no_nan.specs.Claims.{Number}
+use Rattle.no_nan.specs.NoNan.{Number}
 
 -- a sum that is not refused is no NaN
 abbrev pub SumNumber : SumOp → List Float → Type 0

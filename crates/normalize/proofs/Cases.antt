@@ -3,10 +3,10 @@ use mathlib.Core.Path.{_≡_, refl}
 use mathlib.Core.Bool.{true, false}
 use mathlib.Core.List.{[], _∷_}
 use lib.Ieee.{Float, ofBits, mul, add, sub, neg, round, eq}
-use Rattle.lists.specs.Index.{tab}
+use Rattle.lists.specs.Lists.{tab}
 use Rattle.floats.specs.Values.{f32, zeroF, oneF}
 use Rattle.normalize.specs.declared.Settings.{Settings}
-use Rattle.normalize.specs.Normal.{normOf, results}
+use Rattle.normalize.specs.Normalize.{normOf, results}
 
 abbrev pub minusZero : Float
 minusZero = f32 0x8000_0000

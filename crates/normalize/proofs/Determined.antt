@@ -6,7 +6,7 @@ use lib.Ieee.{Float}
 use Rattle.answer.specs.declared.Answer.{Answer}
 use Rattle.answer.proofs.Outcome.{Outcome, one-outcome}
 use Rattle.normalize.specs.declared.Settings.{Settings}
-use Rattle.normalize.specs.Normal.{inPlaceTold, inPlaceOut, normalizeTold, normalizeOut}
+use Rattle.normalize.specs.Normalize.{inPlaceTold, inPlaceOut, normalizeTold, normalizeOut}
 
 -- a is the answer and l what is left of the lent slice; b and m likewise
 module _ (st : Settings) (hs : Bool) (es : List Float) (hb : Bool) (eb s : List Float) (a b : Answer) (l m : List Float) where

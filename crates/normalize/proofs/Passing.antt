@@ -12,7 +12,7 @@ use Rattle.answer.specs.declared.Answer.the-variants.{Done}
 use Rattle.answer.specs.declared.Refusal.the-variants.{Length, TooMany, NotFinite, Domain, Result}
 use Rattle.answer.proofs.Chain.{opened, done-is}
 use Rattle.normalize.specs.declared.Settings.{Settings}
-use Rattle.normalize.specs.Normal.{unfitOf, firstNanResult, tests, Fitted}
+use Rattle.normalize.specs.Normalize.{unfitOf, firstNanResult, tests, Fitted}
 
 -- a slice in use has the length n
 pub fit : (has : Bool) (s : List Float) (n : ℕ) → unfitOf has (length s) n ≡ false → has ≡ true → length s ≡ n

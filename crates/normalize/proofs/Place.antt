@@ -9,7 +9,7 @@ use lib.ListN.{length}
 use Rattle.answer.specs.Answer.{placeOf}
 use Rattle.answer.specs.Limits.{elementLimit}
 use Rattle.answer.proofs.Bounded.{Bounded, place-bounded}
-use Rattle.normalize.specs.Normal.{tests, firstBad, firstNanResult, inPlaceAnswer, normalizeAnswer}
+use Rattle.normalize.specs.Normalize.{tests, firstBad, firstNanResult, inPlaceAnswer, normalizeAnswer}
 use Rattle.normalize.specs.declared.Settings.{Settings}
 
 module _ (st : Settings) (hs : Bool) (es : List Float) (hb : Bool) (eb s : List Float) where

@@ -9,12 +9,12 @@ use lib.Ieee.Scale.{finite}
 use lib.ListN.{getD}
 use denote.Floats.{passes, is-true}
 use Rattle.lists.proofs.Tests.{both}
-use Rattle.floats.specs.Float.{finiteAt}
+use Rattle.floats.specs.Floats.{finiteAt}
 use Rattle.floats.proofs.NoNan.{add-number, sub-number, mul-number}
 use Rattle.floats.proofs.Sign.{finite-number}
 use Rattle.floats.proofs.Finite.{add-finite, sub-finite, mul-finite}
 use Rattle.floats.specs.Values.{zeroF, oneF}
-use Rattle.normalize.specs.Normal.{centred, arm1, arm2, arm3, normOf, resultAt, settingsOk, finiteAll, resultNumber}
+use Rattle.normalize.specs.Normalize.{centred, arm1, arm2, arm3, normOf, resultAt, settingsOk, finiteAll, resultNumber}
 use Rattle.normalize.specs.declared.Settings.{Settings}
 
 module _ (st : Settings) where

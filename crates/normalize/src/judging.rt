@@ -6,7 +6,7 @@ ghost use lib.ListN.{length};
 ghost use lib.Ieee.{isNan};
 ghost use lib.Ieee.Scale.{finite};
 ghost use Rattle.answer.specs.Answer.{judged};
-ghost use Rattle.normalize.specs.Normal.{resultAt, unfitOf, settingsOk, finiteIn, finiteAll, firstBad, resultNumber, firstNanResult, tests, Fitted};
+ghost use Rattle.normalize.specs.Normalize.{resultAt, unfitOf, settingsOk, finiteIn, finiteAll, firstBad, resultNumber, firstNanResult, tests, Fitted};
 use crate::Settings;
 use crate::result_at;
 use answer::Answer;

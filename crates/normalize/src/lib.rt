@@ -5,8 +5,8 @@ ghost use mathlib.Core.Bool.{true};
 ghost use Prim.Native.Nat.{_<_};
 ghost use lib.ListN.{length};
 ghost use Rattle.answer.specs.Answer.{toldOf};
-ghost use Rattle.normalize.specs.Normal.{arm3, normOf, pickAt, resultAt, results, Fitted};
-ghost use Rattle.normalize.specs.Normal.{inPlaceTold, inPlaceOut, normalizeTold, normalizeOut};
+ghost use Rattle.normalize.specs.Normalize.{arm3, normOf, pickAt, resultAt, results, Fitted};
+ghost use Rattle.normalize.specs.Normalize.{inPlaceTold, inPlaceOut, normalizeTold, normalizeOut};
 
 mod judging;
 

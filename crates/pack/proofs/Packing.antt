@@ -8,7 +8,7 @@ use Rattle.answer.specs.Limits.{elementLimit}
 use Rattle.answer.specs.declared.Answer.{Answer}
 use Rattle.answer.specs.declared.Refusal.{Refusal}
 use Rattle.answer.proofs.Numbers.{listed}
-use Rattle.pack.specs.Packed.{packed, whenZero}
+use Rattle.pack.specs.Pack.{packed, whenZero}
 
 pub number-back : (number place : ℕ) → number < 256 → packed (number, place) % 256 ≡ number
 number-back number place h = omega arith

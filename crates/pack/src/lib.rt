@@ -2,7 +2,7 @@
 ghost use mathlib.Core.Path.{_≡_};
 ghost use Prim.Native.Nat.{_^_, _<_};
 ghost use Rattle.answer.specs.Answer.{placeOf, toldOf};
-ghost use Rattle.pack.specs.Packed.{packed};
+ghost use Rattle.pack.specs.Pack.{packed};
 use answer::Answer;
 use answer::number;
 use answer::place;

@@ -5,7 +5,7 @@ use mathlib.Core.List.{List}
 use native.Mathlib.Omega.{arith}
 use native.Mathlib.Nat.{mul-div-mul-right, div-add-mod}
 use lib.ListN.{length, replicate, length-replicate, getD-replicate}
-use Rattle.lists.specs.Index.{sumTo, tab}
+use Rattle.lists.specs.Lists.{sumTo, tab}
 use Rattle.lists.proofs.Sum.{sum-same, sum-const}
 use Rattle.lists.proofs.Tab.{tab-same}
 use Rattle.parts.specs.Parts.{at, total, lt1, share, remainder, left, ahead, rank, gain, gainsOver}

@@ -9,7 +9,7 @@ use native.Mathlib.Omega.{arith}
 use native.Mathlib.Decide.{decLe}
 use native.Mathlib.Nat.{mod-lt, le-of-mul-le-mul-left, mul-le-mul-right, le-dest}
 use lib.ListN.{length}
-use Rattle.lists.specs.Index.{sumTo}
+use Rattle.lists.specs.Lists.{sumTo}
 use Rattle.lists.proofs.Sum.{sum-same, sum-add, sum-bound}
 use Rattle.lists.proofs.Tab.{tab-length, tab-at}
 use Rattle.parts.specs.Parts.{at, total, apart, lt1, share, remainder, left, rank, gain, gainsOver, distanceOver}

@@ -8,7 +8,7 @@ use native.Mathlib.Omega.{arith}
 use native.Mathlib.Decide.{decLe}
 use native.Mathlib.Nat.{eq-or-lt-of-le, le-of-eq}
 use borrow.Author.Tests.{lt-ltb, le-ltb, eq-eqb, ne-eqb}
-use Rattle.lists.specs.Index.{sumTo}
+use Rattle.lists.specs.Lists.{sumTo}
 use Rattle.lists.proofs.Sum.{sum-same, sum-le, sum-lt, sum-bound, sum-ones, sum-one}
 use Rattle.parts.specs.Parts.{lt1, ahead}
 use Rattle.parts.proofs.Bits.{by-lt, lt1-yes, lt1-no, lt1-small, lt1-mono}

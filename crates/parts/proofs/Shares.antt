@@ -5,7 +5,7 @@ use mathlib.Core.List.{List}
 use native.Mathlib.Omega.{arith}
 use native.Mathlib.Nat.{div-add-mod, le-of-mul-le-mul-left, le-trans, mul-le-mul}
 use lib.ListN.{length}
-use Rattle.lists.specs.Index.{sumTo}
+use Rattle.lists.specs.Lists.{sumTo}
 use Rattle.lists.proofs.Sum.{sum-same, sum-term}
 use Rattle.parts.specs.Parts.{at, total, share, remainder, left, ahead, aheadIn, rank, gain, Known}
 use Rattle.parts.proofs.Bits.{lt1-yes, lt1-no}

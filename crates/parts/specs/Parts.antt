@@ -5,7 +5,7 @@ use mathlib.Core.Bool.{Bool, true, false, _||_, _&&_}
 use mathlib.Core.List.{List}
 use lib.Dec.{ltb, eqb}
 use lib.ListN.{length, getD}
-use Rattle.lists.specs.Index.{sumTo, tab}
+use Rattle.lists.specs.Lists.{sumTo, tab}
 
 abbrev pub at : List ℕ → ℕ → ℕ
 at xs i = getD xs i 0

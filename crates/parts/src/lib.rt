@@ -2,7 +2,7 @@
 ghost use mathlib.Core.Path.{_≡_};
 ghost use Prim.Native.Nat.{_<_, _≤_};
 ghost use lib.ListN.{length};
-ghost use Rattle.lists.specs.Index.{sumTo, Filled};
+ghost use Rattle.lists.specs.Lists.{sumTo, Filled};
 ghost use Rattle.parts.specs.Parts.{total, ahead, aheadIn, share, remainder, gain, gainsOver, Known};
 
 fn sum(a: &[u32]) -> u64

@@ -5,7 +5,7 @@ use mathlib.Core.List.{List}
 use lib.Ieee.{Float}
 use Rattle.answer.specs.declared.Answer.{Answer}
 use Rattle.answer.proofs.Outcome.{Outcome, one-outcome}
-use Rattle.quantize.specs.Code.{quantizeTold, quantizeOut}
+use Rattle.quantize.specs.Quantize.{quantizeTold, quantizeOut}
 
 -- a is the answer and l what d holds afterwards; b and m likewise
 pub quantize-determined : (inv : Float) (zp : ℕ) (s : List Float) (d : List ℕ) (a b : Answer) (l m : List ℕ)

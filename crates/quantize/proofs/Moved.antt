@@ -1,4 +1,4 @@
--- What `steps` and `held` find: the cast of the rounded size, and the zero point moved by it. Assumes nothing.
+-- What `steps` and `clamp` find: the cast of the rounded size, and the zero point moved by it. Assumes nothing.
 use mathlib.Core.Path.{_≡_, refl, sym, _∙_, ap, subst}
 use mathlib.Core.Bool.{Bool, true, false, true≢false, false≢true}
 use Prim.Native.Nat.{ℕ, _+_, _-_, _*_, _^_, _<_, _≤_, min}
@@ -12,13 +12,13 @@ use lib.Ieee.Fits.{down-pos}
 use lib.Ieee.Nearest.{closest}
 use lib.Ieee.Back.{unsigned-back}
 use borrow.Author.Tests.{le-leb, ltb-true, ltb-false}
-use Rattle.floats.specs.Float.{absOf, roundEven}
+use Rattle.floats.specs.Floats.{absOf, roundEven}
 use Rattle.floats.proofs.Near.{closest-exact}
 use Rattle.floats.proofs.Numbers.{ltb-times}
 use Rattle.floats.proofs.Pattern.{fits-sign}
 use Rattle.floats.proofs.Whole.{round-even-value}
 use Rattle.floats.specs.Values.{f32, zeroF}
-use Rattle.quantize.specs.Code.{heldOf, codeSteps}
+use Rattle.quantize.specs.Quantize.{clampOf, codeSteps}
 
 -- 256
 abbrev pub top : Float
@@ -78,21 +78,21 @@ few nan = omega arith
 few (inf s) = omega arith
 few (fin s m e) = omega arith
 
-pub held-down : (zp : ℕ) (y : Float) → zp ≤ 255 → lt y zeroF ≡ true → zp - codeSteps y ≡ heldOf zp y
-unfolding lt ofBits heldOf
-held-down zp nan z h = absurd (false≢true h)
-held-down zp (inf true) z h = omega arith
-held-down zp (inf false) z h = absurd (false≢true h)
-held-down zp (fin true m e) z h = omega arith
-held-down zp (fin false m e) z h = absurd (omega (arith, ltb-true (m * up e * 1) (0 * down e) h, zero-mul (down e)))
+pub clamp-down : (zp : ℕ) (y : Float) → zp ≤ 255 → lt y zeroF ≡ true → zp - codeSteps y ≡ clampOf zp y
+unfolding lt ofBits clampOf
+clamp-down zp nan z h = absurd (false≢true h)
+clamp-down zp (inf true) z h = omega arith
+clamp-down zp (inf false) z h = absurd (false≢true h)
+clamp-down zp (fin true m e) z h = omega arith
+clamp-down zp (fin false m e) z h = absurd (omega (arith, ltb-true (m * up e * 1) (0 * down e) h, zero-mul (down e)))
 
-pub held-up : (zp : ℕ) (y : Float) → zp ≤ 255 → lt y zeroF ≡ false → min (zp + codeSteps y) 255 ≡ heldOf zp y
-unfolding lt ofBits heldOf
-held-up zp nan z h = omega arith
-held-up zp (inf true) z h = absurd (true≢false h)
-held-up zp (inf false) z h = omega arith
-held-up zp (fin false m e) z h = omega arith
-held-up zp (fin true m e) z h =
+pub clamp-up : (zp : ℕ) (y : Float) → zp ≤ 255 → lt y zeroF ≡ false → min (zp + codeSteps y) 255 ≡ clampOf zp y
+unfolding lt ofBits clampOf
+clamp-up zp nan z h = omega arith
+clamp-up zp (inf true) z h = absurd (true≢false h)
+clamp-up zp (inf false) z h = omega arith
+clamp-up zp (fin false m e) z h = omega arith
+clamp-up zp (fin true m e) z h =
     let n : m * up e ≡ 0 = omega (arith, ltb-false 0 (m * up e * 1 + 0 * down e) h) in
     let k : closest (m * up e) (down e) ≡ 0 = closest-exact (m * up e) (down e) 0 (down-pos e) (n ∙ sym (zero-mul (down e))) in
     omega arith

@@ -15,7 +15,7 @@ use Rattle.floats.proofs.Near.{Near, near}
 use Rattle.floats.proofs.Numbers.{less-or}
 use Rattle.floats.proofs.NoNan.{mul-number}
 use Rattle.floats.proofs.Sign.{finite-number}
-use Rattle.quantize.specs.Code.{heldOf, codeOf}
+use Rattle.quantize.specs.Quantize.{clampOf, codeOf}
 
 -- |a - b|
 abbrev pub apart : ℕ → ℕ → ℕ
@@ -81,32 +81,32 @@ module _ (a d q zp : ℕ) (n : Near q a d) where
           let s : (zp - q) * d + q * d ≡ zp * d = sym (add-mul (zp - q) q d) ∙ ap (λ x. x * d) (omega arith) in
           close {c = zp - q} (omega arith) (omega arith)
 
-held-nearest : (y : Float) (zp k : ℕ) → T (finite y) → k ≤ 255 → distance (frac y) zp (heldOf zp y) ≤ distance (frac y) zp k
-unfolding heldOf
-held-nearest nan zp k t K = absurd t
-held-nearest (inf s) zp k t K = absurd t
-held-nearest (fin false m e) zp k t K =
+clamp-nearest : (y : Float) (zp k : ℕ) → T (finite y) → k ≤ 255 → distance (frac y) zp (clampOf zp y) ≤ distance (frac y) zp k
+unfolding clampOf
+clamp-nearest nan zp k t K = absurd t
+clamp-nearest (inf s) zp k t K = absurd t
+clamp-nearest (fin false m e) zp k t K =
     let n = near (m * up e) (down e) (down-pos e) in
     nearer _ _ (down e) _ k K (upward (m * up e) (down e) (closest (m * up e) (down e)) zp n)
-held-nearest (fin true m e) zp k t K =
+clamp-nearest (fin true m e) zp k t K =
     let n = near (m * up e) (down e) (down-pos e) in
     nearer _ _ (down e) _ k K (downward (m * up e) (down e) (closest (m * up e) (down e)) zp n)
 
 pub nearest-code : (inv x : Float) (zp k : ℕ) → Nearest inv x zp k
-nearest-code inv x zp k t K = held-nearest (mul binary32 x inv) zp k t K
+nearest-code inv x zp k t K = clamp-nearest (mul binary32 x inv) zp k t K
 
 -- the one given is a code
-held-code : (y : Float) (zp : ℕ) → zp ≤ 255 → heldOf zp y ≤ 255
-unfolding heldOf
-held-code nan zp z = omega arith
-held-code (inf true) zp z = omega arith
-held-code (inf false) zp z = omega arith
-held-code (fin true m e) zp z = omega arith
-held-code (fin false m e) zp z = omega arith
+clamp-code : (y : Float) (zp : ℕ) → zp ≤ 255 → clampOf zp y ≤ 255
+unfolding clampOf
+clamp-code nan zp z = omega arith
+clamp-code (inf true) zp z = omega arith
+clamp-code (inf false) zp z = omega arith
+clamp-code (fin true m e) zp z = omega arith
+clamp-code (fin false m e) zp z = omega arith
 
-pub code-held : (inv x : Float) (zp : ℕ) → zp ≤ 255 → codeOf inv zp x ≤ 255
-code-held inv x zp z = held-code (mul binary32 x inv) zp z
+pub code-clamped : (inv x : Float) (zp : ℕ) → zp ≤ 255 → codeOf inv zp x ≤ 255
+code-clamped inv x zp z = clamp-code (mul binary32 x inv) zp z
 
--- the product of finite numbers is no NaN, so `heldOf`'s case for one never counts
+-- the product of finite numbers is no NaN, so `clampOf`'s case for one never counts
 pub product-number : (inv x : Float) → T (finite inv) → T (finite x) → T (not (isNan (mul binary32 x inv)))
 product-number inv x p q = mul-number binary32 x inv (finite-number x q) (finite-number inv p) (inl q) (inl p)

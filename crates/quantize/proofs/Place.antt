@@ -8,8 +8,8 @@ use lib.ListN.{length}
 use Rattle.answer.specs.Answer.{placeOf}
 use Rattle.answer.specs.Limits.{elementLimit}
 use Rattle.answer.proofs.Bounded.{place-bounded}
-use Rattle.floats.specs.Float.{firstNotFinite}
-use Rattle.quantize.specs.Code.{tests, quantizeAnswer}
+use Rattle.floats.specs.Floats.{firstNotFinite}
+use Rattle.quantize.specs.Quantize.{tests, quantizeAnswer}
 
 pub quantize-place : (inv : Float) (s : List Float) (d : List ℕ) → placeOf (quantizeAnswer inv s d) ≤ elementLimit
 unfolding quantizeAnswer

@@ -3,7 +3,7 @@ ghost use mathlib.Core.Path.{_≡_};
 ghost use mathlib.Core.List.{map};
 ghost use lib.ListN.{length};
 ghost use Rattle.answer.specs.Answer.{toldOf};
-ghost use Rattle.quantize.specs.Code.{codeSteps, heldOf, codeOf, quantizeTold, quantizeOut};
+ghost use Rattle.quantize.specs.Quantize.{codeSteps, clampOf, codeOf, quantizeTold, quantizeOut};
 use answer::Answer;
 use answer::Refusal;
 use answer::limits::ELEMENT_LIMIT;
@@ -24,8 +24,8 @@ fn steps(y: f32) -> u32
 }
 
 // The zero point moved by y, held to 0..255.
-fn held(zero_point: u8, y: f32) -> u8
-    ensures { λ r. ⌜ r ≡ heldOf «zero_point» y ⌝ }
+fn clamp(zero_point: u8, y: f32) -> u8
+    ensures { λ r. ⌜ r ≡ clampOf «zero_point» y ⌝ }
 {
     let n = steps(y);
     let zp = zero_point as u32;
@@ -44,7 +44,7 @@ fn held(zero_point: u8, y: f32) -> u8
 fn code(inv_scale: f32, zero_point: u8, x: f32) -> u8
     ensures { λ r. ⌜ r ≡ codeOf «inv_scale» «zero_point» x ⌝ }
 {
-    held(zero_point, x * inv_scale)
+    clamp(zero_point, x * inv_scale)
 }
 
 fn fill(inv_scale: f32, zero_point: u8, src: &[f32], dst: &mut [u8])

@@ -1,7 +1,7 @@
 -- sin_cos.rs below 48,000 in size, in the Rust's order of steps and operands, each step rounded once. Definitions only.
 use mathlib.Core.Bool.{cond}
 use lib.Ieee.{Float, binary32, sub, mul, div, lt}
-use Rattle.floats.specs.Float.{mulAdd, mulSubFrom, roundEven}
+use Rattle.floats.specs.Floats.{mulAdd, mulSubFrom, roundEven}
 use Rattle.floats.specs.Values.{oneF}
 use Rattle.consts.specs.Consts.{pi, minusPi, inv2Pi, halfPi, twoPiHi, twoPiLo, sinA3, sinA5, sinB2, sinB4}
 

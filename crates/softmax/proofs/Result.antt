@@ -14,7 +14,7 @@ use Rattle.answer.specs.declared.Refusal.the-variants.{TooMany, Domain}
 use Rattle.answer.specs.Limits.{elementLimit}
 use Rattle.answer.proofs.Chain.{opened}
 use Rattle.floats.specs.Values.{zeroF}
-use Rattle.lists.specs.Index.{tab}
+use Rattle.lists.specs.Lists.{tab}
 use Rattle.lists.proofs.First.{first-clear}
 use Rattle.softmax.specs.Softmax.{maxOf, expLess, expsOf, sumOf, scaledBy, weightsOf, allMasked, firstOutside, resultOf, inPlaceAnswer}
 use Rattle.floats.proofs.Each.{Each}

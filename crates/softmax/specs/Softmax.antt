@@ -12,7 +12,7 @@ use Rattle.answer.specs.declared.Answer.{Answer}
 use Rattle.answer.specs.declared.Refusal.the-variants.{Length, TooMany, Domain, Masked}
 use Rattle.floats.specs.Values.{zeroF, oneF, f32Min}
 use Rattle.exp.specs.Exp.{reducedRangeExpOf}
-use Rattle.lists.specs.Index.{firstNot, tab}
+use Rattle.lists.specs.Lists.{firstNot, tab}
 use Rattle.min_max.specs.MinMax.{largestFrom}
 use Rattle.sum.specs.Sum.{sumFrom}
 use Rattle.sum.specs.declared.SumOp.the-variants.{Sum}

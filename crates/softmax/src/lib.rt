@@ -7,7 +7,7 @@ ghost use lib.Ieee.{nan, sub, lt, binary32};
 ghost use lib.ListN.{length, getD};
 ghost use Rattle.answer.specs.Answer.{toldOf};
 ghost use Rattle.floats.specs.Values.{zeroF};
-ghost use Rattle.lists.specs.Index.{tab};
+ghost use Rattle.lists.specs.Lists.{tab};
 ghost use Rattle.softmax.specs.Softmax.{isMasked, inDomain, firstOutside, allMasked, maxOf, expLess, sumOf, scaledBy, inPlaceAnswer, inPlaceTold, inPlaceOut, softmaxTold, softmaxOut};
 use answer::Answer;
 use answer::Refusal;

@@ -16,7 +16,7 @@ use Rattle.answer.specs.Limits.{elementLimit}
 use Rattle.answer.specs.declared.Answer.the-variants.{Done}
 use Rattle.answer.proofs.Chain.{Gives, clear, skip, none-found, gives}
 use Rattle.floats.specs.Values.{zeroF, oneF}
-use Rattle.lists.specs.Index.{firstNot, tab}
+use Rattle.lists.specs.Lists.{firstNot, tab}
 use Rattle.lists.proofs.First.{first-clear, first-fails, first-le}
 use Rattle.lists.proofs.Tab.{tab-length, tab-at}
 use Rattle.softmax.specs.Softmax.{isMasked, firstOutside, allMasked, weightsOf, resultOf, tests, inPlaceAnswer, inPlaceTold, inPlaceOut, softmaxAnswer, softmaxTold, softmaxOut}

@@ -13,7 +13,7 @@ use lib.Ieee.Compare.{differs-from-itself}
 use borrow.Author.Tests.{eqb-true}
 use Rattle.answer.specs.Limits.{elementLimit}
 use Rattle.floats.specs.Values.{zeroF, oneF}
-use Rattle.lists.specs.Index.{firstNot, tab}
+use Rattle.lists.specs.Lists.{firstNot, tab}
 use Rattle.lists.proofs.First.{first-clear}
 use Rattle.lists.proofs.Tests.{both}
 use Rattle.lists.proofs.Tab.{tab-length, tab-at}

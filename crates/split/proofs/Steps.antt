@@ -11,7 +11,7 @@ use lib.Ieee.Exact.{HasValue}
 use lib.Ieee.Fits.{down-pos, mul-fits}
 use lib.Ieee.Nearest.{closest, closest-mono}
 use Rattle.floats.specs.Values.{zeroF, oneF}
-use Rattle.floats.specs.Float.{absOf, roundEven}
+use Rattle.floats.specs.Floats.{absOf, roundEven}
 use Rattle.floats.proofs.Scaled.{Casts, product, rounded, even-fits, casts}
 use Rattle.floats.proofs.Near.{closest-exact}
 use Rattle.floats.proofs.Pattern.{fits-sign}

@@ -12,7 +12,7 @@ use Rattle.answer.specs.Answer.{toldOf, whenDone}
 use Rattle.answer.proofs.Chain.{gives, skip, clear}
 use Rattle.floats.specs.Values.{f32, zeroF}
 use Rattle.exp.specs.Exp.{reducedRangeExpOf}
-use Rattle.lists.specs.Index.{sumTo, tab, firstNot}
+use Rattle.lists.specs.Lists.{sumTo, tab, firstNot}
 use Rattle.min_max.specs.MinMax.{extremeFrom}
 use Rattle.sum.specs.Sum.{sumFrom}
 use Rattle.softmax.specs.Softmax.{firstOutside, allMasked, maxOf, expsOf, sumOf, weightsOf}

@@ -11,7 +11,7 @@ use lib.ListN.{length, getD, replicate, length-replicate, getD-replicate}
 use lib.Ieee.{Float, nan, inf, binary32, mul, div, fits}
 use lib.Ieee.Scale.{finite}
 use Rattle.floats.specs.Values.{oneF}
-use Rattle.lists.specs.Index.{tab}
+use Rattle.lists.specs.Lists.{tab}
 use Rattle.lists.proofs.Tab.{map-replicate}
 use Rattle.softmax.specs.Softmax.{maxOf, expLess, expsOf, sumOf, weightsOf}
 use Rattle.answer.specs.Limits.{parts, bandLimit}

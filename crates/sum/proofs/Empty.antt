@@ -2,7 +2,7 @@
 use mathlib.Core.Path.{_≡_}
 use mathlib.Core.Bool.{true}
 use mathlib.Core.List.{[]}
-use Rattle.lists.specs.Index.{firstNot}
+use Rattle.lists.specs.Lists.{firstNot}
 use Rattle.answer.specs.Answer.{judged}
 use Rattle.floats.specs.Values.{zeroF}
 use Rattle.sum.specs.Sum.{offsetOk, sumFrom, addUpAnswer, addUpTold}

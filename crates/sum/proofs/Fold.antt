@@ -8,7 +8,7 @@ use lib.Ieee.Scale.{finite}
 use lib.ListN.{length, getD, take, drop}
 use Rattle.lists.proofs.First.{Passed}
 use Rattle.lists.proofs.Fold.{fold-more, fold-run, fold-end, fold-keeps}
-use Rattle.floats.specs.Float.{finiteAt}
+use Rattle.floats.specs.Floats.{finiteAt}
 use Rattle.exp.specs.Exp.{expOf}
 use Rattle.sum.specs.Sum.{stepOf, sumFrom}
 use Rattle.sum.specs.declared.SumOp.{SumOp}

@@ -8,7 +8,7 @@ use lib.ListN.{length}
 use Rattle.answer.specs.Answer.{placeOf}
 use Rattle.answer.specs.Limits.{elementLimit}
 use Rattle.answer.proofs.Bounded.{place-bounded}
-use Rattle.floats.specs.Float.{firstNotFinite}
+use Rattle.floats.specs.Floats.{firstNotFinite}
 use Rattle.sum.specs.Sum.{tests, addUpAnswer}
 use Rattle.sum.specs.declared.SumOp.{SumOp}
 

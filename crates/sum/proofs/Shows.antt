@@ -7,7 +7,7 @@ use lib.Ieee.Scale.{finite}
 use lib.ListN.{length}
 use Rattle.lists.proofs.First.{Passed}
 use Rattle.lists.proofs.Fold.{fold-shows}
-use Rattle.floats.specs.Float.{absOf, finiteAt}
+use Rattle.floats.specs.Floats.{absOf, finiteAt}
 use Rattle.floats.proofs.Finite.{add-finite, sub-finite, mul-finite, abs-finite}
 use Rattle.sum.specs.Sum.{stepOf, sumFrom}
 use Rattle.sum.specs.declared.SumOp.{SumOp}

@@ -6,7 +6,7 @@ use lib.Dec.{ltb}
 use lib.Ieee.{Float, binary32, add, sub}
 use lib.Ieee.Scale.{finite}
 use lib.ListN.{length}
-use Rattle.floats.specs.Float.{mulAdd, absOf, firstNotFinite}
+use Rattle.floats.specs.Floats.{mulAdd, absOf, firstNotFinite}
 use Rattle.answer.specs.Answer.{Test, judged, toldOf, toldWith}
 use Rattle.answer.specs.Limits.{elementLimit}
 use Rattle.answer.specs.declared.Answer.{Answer}

@@ -5,7 +5,7 @@ ghost use Prim.Native.Nat.{_≤_};
 ghost use lib.Ieee.{binary32, sub};
 ghost use lib.ListN.{length};
 ghost use Rattle.exp.specs.Exp.{expOf};
-ghost use Rattle.floats.specs.Float.{mulAdd};
+ghost use Rattle.floats.specs.Floats.{mulAdd};
 ghost use Rattle.sum.specs.Sum.{sumFrom};
 ghost use Rattle.sum.specs.declared.SumOp.the-variants.{Sum, SumSquare, SumAbs, SumSquareSub, SumExpSub};
 use exp::exp;

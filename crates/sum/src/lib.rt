@@ -3,7 +3,7 @@ ghost use mathlib.Core.Bool.{true};
 ghost use mathlib.Core.Path.{_≡_};
 ghost use lib.Ieee.{Float};
 ghost use lib.Ieee.Scale.{finite};
-ghost use Rattle.floats.specs.Float.{firstNotFinite};
+ghost use Rattle.floats.specs.Floats.{firstNotFinite};
 ghost use Rattle.sum.specs.Sum.{stepOf, sumFrom, offsetOk, totalTold, addUpTold};
 
 mod folds;

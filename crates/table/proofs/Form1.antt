@@ -3,7 +3,7 @@ use Prim.Native.Nat.{ℕ, _*_, _≤_}
 use mathlib.Core.Path.{_≡_, sym, ap, _∙_}
 use mathlib.Core.List.{List}
 use native.Mathlib.Omega.{arith}
-use Rattle.lists.specs.Index.{tab}
+use Rattle.lists.specs.Lists.{tab}
 use Rattle.lists.proofs.Tab.{tab-same}
 use Rattle.block.specs.Form.{Sound}
 use Rattle.block.specs.Read.{bytesFrom, bandsOf, rowsOf, gainAt}

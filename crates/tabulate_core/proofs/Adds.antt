@@ -13,7 +13,7 @@ use lib.Ieee.{nan, binary32, fits}
 use lib.Ieee.Bits.{ofBits-fits}
 use lib.ListN.{length, getD, length-append, List·getD-append}
 use lib.Seq.{getD-append-add}
-use Rattle.lists.specs.Index.{sumTo}
+use Rattle.lists.specs.Lists.{sumTo}
 use Rattle.lists.proofs.First.{first-end}
 use Rattle.lists.proofs.Sum.{sum-same}
 use Rattle.lists.proofs.Tab.{tab-length, tab-at}

@@ -3,7 +3,7 @@ use Prim.Native.Nat.{ℕ}
 use mathlib.Core.Path.{_≡_, sym, ap, _∙_}
 use mathlib.Core.List.{List}
 use lib.ListN.{length}
-use Rattle.tabulate_core.specs.Tabulated.{tabulatedOf, tabulateTold, tabulateOut}
+use Rattle.tabulate_core.specs.Tabulate.{tabulatedOf, tabulateTold, tabulateOut}
 use Rattle.tabulate_core.specs.declared.Tabulated.{Tabulated}
 
 -- of the argument w and the input s: the answer t, and l what the lent bytes are afterwards

@@ -14,7 +14,7 @@ use Rattle.answer.specs.Limits.{bandLimit, rowLimit, levelLimit}
 use Rattle.table.specs.Release.{release, shapeOk}
 use Rattle.block.proofs.Tests.{Within, shape-is}
 use Rattle.tabulate_core.specs.Argument.{bandsIn}
-use Rattle.tabulate_core.specs.Tabulated.{rowsIn, tabulateTold, tabulateOut}
+use Rattle.tabulate_core.specs.Tabulate.{rowsIn, tabulateTold, tabulateOut}
 use Rattle.tabulate_core.proofs.Told.{tells-refused}
 
 -- so many bytes are more than the most rows of the most bands

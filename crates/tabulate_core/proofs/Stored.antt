@@ -8,12 +8,12 @@ use native.Mathlib.Omega.{arith}
 use borrow.Author.Tests.{eq-eqb, ne-eqb, lt-ltb}
 use lib.Dec.{eqb}
 use lib.ListN.{length}
-use Rattle.lists.specs.Index.{firstNot}
+use Rattle.lists.specs.Lists.{firstNot}
 use Rattle.lists.proofs.First.{first-fails, first-clear}
 use Rattle.answer.specs.Answer.{isDone, whenDone}
 use Rattle.table.specs.Release.{tableLength, tableOf, writeAnswer, writeOut}
 use Rattle.tabulate_core.specs.Rows.{rowAnswer, gainsTo, refusedRow, rowTold, stopOf}
-use Rattle.tabulate_core.specs.Tabulated.{storedTold, storedOut}
+use Rattle.tabulate_core.specs.Tabulate.{storedTold, storedOut}
 use Rattle.tabulate_core.specs.Asked.{Shaped, Split}
 use Rattle.tabulate_core.specs.declared.Stop.{Stop}
 use Rattle.tabulate_core.proofs.Rows.{AllDone, not-zero}

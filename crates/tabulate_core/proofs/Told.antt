@@ -18,7 +18,7 @@ use Rattle.table.specs.Release.{release, shapeOk, tableLength}
 use Rattle.block.proofs.Tests.{Within}
 use Rattle.tabulate_core.specs.Argument.{bandsIn}
 use Rattle.tabulate_core.specs.Rows.{stopOf}
-use Rattle.tabulate_core.specs.Tabulated.{rowsIn, shapeTests, tabulatedOf, orElse, storedTold, storedOut, bandsTold, bandsOut, tabulateTold, tabulateOut}
+use Rattle.tabulate_core.specs.Tabulate.{rowsIn, shapeTests, tabulatedOf, orElse, storedTold, storedOut, bandsTold, bandsOut, tabulateTold, tabulateOut}
 use Rattle.tabulate_core.specs.Asked.{Shaped}
 use Rattle.tabulate_core.specs.declared.Tabulated.{Tabulated}
 

@@ -7,7 +7,7 @@ ghost use Rattle.tabulate_core.specs.Argument.{bandsIn};
 ghost use Rattle.tabulate_core.specs.Rows.{patternOf, levelAt, levelsFrom};
 ghost use Rattle.tabulate_core.specs.Asked.{Row, Shaped, Split};
 ghost use Rattle.table.specs.Release.{tableLength};
-ghost use Rattle.tabulate_core.specs.Tabulated.{tabulatedOf, storedTold, storedOut, tabulateTold, tabulateOut};
+ghost use Rattle.tabulate_core.specs.Tabulate.{tabulatedOf, storedTold, storedOut, tabulateTold, tabulateOut};
 use answer::Answer;
 use answer::is_done;
 use answer::limits::BAND_LIMIT;

@@ -3,7 +3,7 @@ use mathlib.Core.Bool.{cond}
 use lib.Ieee.{Float, binary32, add, sub, mul, div, neg, le}
 use Rattle.floats.specs.Values.{zeroF, oneF, twoF}
 use Rattle.consts.specs.Consts.{tanhCutoff, tanhTiny, tanhSmall, tanhP1, tanhP3, tanhP5, tanhP7, tanhP9}
-use Rattle.floats.specs.Float.{mulAdd, absOf}
+use Rattle.floats.specs.Floats.{mulAdd, absOf}
 use Rattle.exp.specs.Exp.{expOf}
 
 -- for a small x: an odd polynomial in x, by its square and its size

@@ -14,8 +14,8 @@ use Rattle.floats.specs.Values.{zeroF}
 use Rattle.consts.specs.Consts.{largeThreshold}
 use Rattle.erf.specs.Erf.{erfOf, geluOf, approxGeluOf}
 use Rattle.exp.specs.Exp.{expOf, reducedRangeExpOf, sigmoidOf, siluOf, swishOf, eluOf}
-use Rattle.floats.specs.Float.{absOf}
-use Rattle.lists.specs.Index.{firstNot}
+use Rattle.floats.specs.Floats.{absOf}
+use Rattle.lists.specs.Lists.{firstNot}
 use Rattle.sin_cos.specs.SinCos.{sinOf, cosOf}
 use Rattle.tanh.specs.Tanh.{tanhOf}
 use Rattle.unary.specs.declared.Op.{Op}

@@ -5,8 +5,8 @@ use mathlib.Core.Bool.{true}
 use mathlib.Core.List.{List, [], _∷_, _++_}
 use native.Mathlib.Omega.{arith}
 use lib.ListN.{replicate}
-use Rattle.lists.specs.Index.{sumTo}
-use Rattle.lister_core.specs.Listed.{answerText, listedBy, listed}
+use Rattle.lists.specs.Lists.{sumTo}
+use Rattle.lister_core.specs.Lister.{answerText, listedBy, listed}
 use Rattle.lister_core.proofs.Cases as lister
 use Rattle.table.specs.Release.{release, tableTold, tableGains}
 use Rattle.block.specs.Write.{rowOk, gainOf}

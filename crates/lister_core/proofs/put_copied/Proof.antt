@@ -5,7 +5,7 @@ use borrow.Author.Needs.{needs}
 use Rattle.block.proofs.Shape.{gain-block}
 use Rattle.table.proofs.Form1.{gains-of}
 use Rattle.digits.proofs.Written.{wrote-as}
-use Rattle.lister_core.specs.Listed.{tableText}
+use Rattle.lister_core.specs.Lister.{tableText}
 use Rattle.lister_core.proofs.put_copied.Statement.{statement}
 use Rattle.lister_core.proofs.put_copied.Tie as tie
 

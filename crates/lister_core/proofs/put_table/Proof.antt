@@ -5,7 +5,7 @@ use native.Mathlib.Omega.{arith}
 use lib.ListN.{length}
 use Rattle.answer.specs.Limits.{bandLimit, lineRoom}
 use Rattle.digits.proofs.Written.{wrote-length}
-use Rattle.lister_core.specs.Listed.{rowsText}
+use Rattle.lister_core.specs.Lister.{rowsText}
 use Rattle.lister_core.proofs.Room.{Put}
 use Rattle.lister_core.proofs.Rows.{rows-none, rows-more, row-inside, part-length, table-put}
 use Rattle.lister_core.proofs.put_table.Statement.{statement}

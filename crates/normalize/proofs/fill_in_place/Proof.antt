@@ -1,9 +1,9 @@
 use Prim.Native.Nat.{_-_, _≤_}
 use native.Mathlib.Omega.{arith}
 use lib.Ieee.{nan}
-use Rattle.lists.specs.Index.{Filled}
+use Rattle.lists.specs.Lists.{Filled}
 use Rattle.lists.proofs.Placed.{placed-none, placed-more, filled-all}
-use Rattle.normalize.specs.Normal.{resultAt}
+use Rattle.normalize.specs.Normalize.{resultAt}
 use borrow.Author.Needs.{needs}
 use Rattle.normalize.proofs.fill_in_place.Statement.{statement}
 use Rattle.normalize.proofs.fill_in_place.Tie as tie

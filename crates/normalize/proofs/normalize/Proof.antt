@@ -4,7 +4,7 @@ use mathlib.Core.Path.{sym, _∙_, ap}
 use mathlib.Core.Bool.{not}
 use borrow.Author.Tests.{eq-eqb, ne-eqb, not-true, not-false}
 use Rattle.answer.proofs.Chain.{stop, skip, rest, refuses, breaks, ends}
-use Rattle.normalize.specs.Normal.{normalizeAnswer}
+use Rattle.normalize.specs.Normalize.{normalizeAnswer}
 use Rattle.normalize.proofs.Passing.{may-fill}
 use borrow.Author.Needs.{needs}
 use Rattle.normalize.proofs.normalize.Statement.{statement}

@@ -3,7 +3,7 @@ use denote.Ref.{now}
 use mathlib.Core.Path.{sym, _∙_}
 use borrow.Author.Tests.{not-true, not-false}
 use Rattle.answer.proofs.Chain.{rest, breaks, ends}
-use Rattle.normalize.specs.Normal.{inPlaceAnswer}
+use Rattle.normalize.specs.Normalize.{inPlaceAnswer}
 use Rattle.normalize.proofs.Passing.{may-fill}
 use borrow.Author.Needs.{needs}
 use Rattle.normalize.proofs.normalize_in_place.Statement.{statement}

@@ -1,7 +1,7 @@
 -- Each return is the arm of `normOf` that the flags and the bias choose: the branches' tests decide its `cond`s.
 use mathlib.Core.Path.{_∙_}
 use borrow.Author.Tests.{not-true, not-false}
-use Rattle.normalize.specs.Normal.{normOf}
+use Rattle.normalize.specs.Normalize.{normOf}
 use borrow.Author.Needs.{needs}
 use Rattle.normalize.proofs.one.Statement.{statement}
 use Rattle.normalize.proofs.one.Tie as tie

@@ -2,7 +2,7 @@ use Prim.Native.Nat.{_≤_, _*_, _-_}
 use mathlib.Core.Path.{_≡_, refl, ap, _∙_}
 use native.Mathlib.Omega.{arith}
 use lib.ListN.{length}
-use Rattle.lists.specs.Index.{sumTo}
+use Rattle.lists.specs.Lists.{sumTo}
 use Rattle.lists.proofs.Sum.{sum-none, sum-more}
 use Rattle.parts.specs.Parts.{at, total}
 use borrow.Author.Needs.{needs}

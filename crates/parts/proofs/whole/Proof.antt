@@ -4,7 +4,7 @@ use mathlib.Core.Path.{_≡_, ap, _∙_, subst}
 use native.Mathlib.Nat.{div-le-self}
 use native.Mathlib.Omega.{arith}
 use lib.ListN.{length}
-use Rattle.lists.specs.Index.{sumTo, Filled}
+use Rattle.lists.specs.Lists.{sumTo, Filled}
 use Rattle.lists.proofs.Placed.{placed-none, placed-more}
 use Rattle.lists.proofs.Sum.{sum-none, sum-more}
 use Rattle.parts.specs.Parts.{at, share, remainder}

@@ -3,7 +3,7 @@ use Prim.Native.Nat.{_-_}
 use lib.ListN.{length}
 use lib.Ieee.{nan}
 use Rattle.lists.proofs.Mapped.{Mapped, mapped-none, mapped-room, mapped-more, mapped-end}
-use Rattle.quantize.specs.Code.{codeOf}
+use Rattle.quantize.specs.Quantize.{codeOf}
 use borrow.Author.Needs.{needs}
 use Rattle.quantize.proofs.fill.Statement.{statement}
 use Rattle.quantize.proofs.fill.Tie as tie

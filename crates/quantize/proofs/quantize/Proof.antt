@@ -10,7 +10,7 @@ use Rattle.answer.specs.Answer.{Test}
 use Rattle.answer.specs.declared.Answer.{Answer}
 use Rattle.answer.specs.declared.Refusal.the-variants.{Domain}
 use Rattle.answer.proofs.Chain.{Gives, clear, stop, skip, found, found-none, refuses, finishes}
-use Rattle.quantize.specs.Code.{tests, quantizeAnswer}
+use Rattle.quantize.specs.Quantize.{tests, quantizeAnswer}
 use Rattle.quantize.proofs.quantize.Statement.{statement}
 use Rattle.quantize.proofs.quantize.Tie as tie
 

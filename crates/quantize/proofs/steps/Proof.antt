@@ -2,7 +2,7 @@ use mathlib.Core.Path.{_≡_, sym, subst, _∙_, ap}
 use lib.Dec.{T}
 use lib.Ieee.{binary32, fits}
 use borrow.Author.Needs.{needs}
-use Rattle.floats.specs.Float.{roundEven}
+use Rattle.floats.specs.Floats.{roundEven}
 use Rattle.quantize.proofs.Moved.{sized, below-top, past-top}
 use Rattle.quantize.proofs.steps.Statement.{statement}
 use Rattle.quantize.proofs.steps.Tie as tie

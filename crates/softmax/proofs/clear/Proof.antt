@@ -6,7 +6,7 @@ use denote.Ref.{now}
 use lib.Ieee.{nan}
 use lib.ListN.{length}
 use Rattle.floats.specs.Values.{zeroF}
-use Rattle.lists.specs.Index.{Filled}
+use Rattle.lists.specs.Lists.{Filled}
 use borrow.Author.Needs.{needs}
 use Rattle.softmax.proofs.clear.Statement.{statement}
 use Rattle.softmax.proofs.clear.Tie as tie

@@ -6,7 +6,7 @@ use native.Mathlib.Omega.{arith}
 use denote.Ref.{now}
 use lib.Ieee.{nan}
 use lib.ListN.{length, getD}
-use Rattle.lists.specs.Index.{Filled}
+use Rattle.lists.specs.Lists.{Filled}
 use Rattle.lists.proofs.Tab.{tab-map}
 use Rattle.softmax.specs.Softmax.{expLess}
 use borrow.Author.Needs.{needs}

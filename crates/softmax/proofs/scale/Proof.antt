@@ -6,7 +6,7 @@ use denote.Ref.{now}
 use lib.Ieee.{nan, binary32, mul, div}
 use lib.ListN.{length, getD}
 use Rattle.floats.specs.Values.{oneF}
-use Rattle.lists.specs.Index.{Filled}
+use Rattle.lists.specs.Lists.{Filled}
 use Rattle.lists.proofs.Tab.{tab-map}
 use borrow.Author.Needs.{needs}
 use Rattle.softmax.proofs.scale.Statement.{statement}

@@ -4,7 +4,7 @@ use mathlib.Core.Path.{_∙_}
 use native.Mathlib.Omega.{arith}
 use lib.Ieee.{nan}
 use lib.ListN.{length, getD}
-use Rattle.lists.specs.Index.{Filled}
+use Rattle.lists.specs.Lists.{Filled}
 use Rattle.lists.proofs.Placed.{placed-none, placed-more, filled-all}
 use Rattle.lists.proofs.Tab.{tab-map}
 use Rattle.split.specs.Split.{stepsOf}

@@ -3,7 +3,7 @@ use mathlib.Core.Path.{sym, subst, _∙_, ap}
 use lib.Dec.{T}
 use lib.Ieee.{binary32, mul, ofBits}
 use borrow.Author.Needs.{needs}
-use Rattle.floats.specs.Float.{roundEven}
+use Rattle.floats.specs.Floats.{roundEven}
 use Rattle.floats.proofs.Scaled.{Casts}
 use Rattle.answer.specs.Limits.{stepCount}
 use Rattle.split.specs.Split.{stepsOf}

@@ -3,7 +3,7 @@ use native.Mathlib.Omega.{arith}
 use lib.Ieee.{nan}
 use lib.ListN.{length}
 use borrow.Author.Needs.{needs}
-use Rattle.lists.specs.Index.{Filled}
+use Rattle.lists.specs.Lists.{Filled}
 use Rattle.lists.proofs.Placed.{placed-none, filled-more, filled-end}
 use Rattle.tabulate_core.specs.Rows.{levelAt}
 use Rattle.tabulate_core.proofs.levels_from.Statement.{statement}

@@ -14,7 +14,7 @@ use Rattle.answer.proofs.Follows.{few-gains}
 use Rattle.block.proofs.Tests.{Within, shape-is, shape-fits}
 use Rattle.table.specs.Release.{release}
 use Rattle.table.proofs.Form1.{sound}
-use Rattle.tabulate_core.specs.Tabulated.{rowsIn}
+use Rattle.tabulate_core.specs.Tabulate.{rowsIn}
 use Rattle.tabulate_core.proofs.Told.{room-short, room-enough, shaped, tells-refused, tells-none, tells-stored}
 use Rattle.tabulate_core.proofs.tabulate.Statement.{statement}
 use Rattle.tabulate_core.proofs.tabulate.Tie as tie

@@ -1,7 +1,7 @@
 -- The bytes of the blocks before block k are the table's; block k adds its 512.
 use Prim.Native.Nat.{_-_, _*_, _≤_}
 use native.Mathlib.Omega.{arith}
-use Rattle.lists.specs.Index.{Filled}
+use Rattle.lists.specs.Lists.{Filled}
 use Rattle.lists.proofs.Placed.{placed-none, filled-all}
 use Rattle.block.specs.Block.{tableByte, tableBytes}
 use Rattle.block.proofs.Storing.{table-more}

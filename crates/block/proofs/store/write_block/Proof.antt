@@ -2,7 +2,7 @@
 use Prim.Native.Nat.{ℕ, _+_, _-_, _*_, _≤_}
 use mathlib.Core.Path.{_≡_, refl, ap}
 use native.Mathlib.Omega.{arith}
-use Rattle.lists.specs.Index.{Placed}
+use Rattle.lists.specs.Lists.{Placed}
 use Rattle.lists.proofs.Placed.{placed-none}
 use Rattle.block.specs.Block.{tableByte}
 use Rattle.block.proofs.Shape.{per-fits, held-small, start-small}

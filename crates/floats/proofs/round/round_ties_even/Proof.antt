@@ -5,7 +5,7 @@ use mathlib.Core.Path.{_≡_, refl, sym, subst, _∙_}
 use lib.Dec.{T, le→leb}
 use lib.Ieee.{Float, binary32, fits, ofInt, inFloat, round, toBits}
 use borrow.Author.Needs.{needs}
-use Rattle.floats.specs.Float.{roundEven}
+use Rattle.floats.specs.Floats.{roundEven}
 use Rattle.floats.proofs.Sign.{round-neg}
 use Rattle.floats.proofs.Pattern.{SignBit, is-nan, no-nan}
 use Rattle.floats.proofs.Digits.{few, is-whole, to-whole}

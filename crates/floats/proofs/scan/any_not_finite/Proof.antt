@@ -1,7 +1,7 @@
 use Prim.Native.Nat.{_-_, _≤_}
 use lib.ListN.{length}
 use Rattle.lists.proofs.First.{Looked, looked-none, looked-more, looked-end}
-use Rattle.floats.specs.Float.{finiteAt}
+use Rattle.floats.specs.Floats.{finiteAt}
 use borrow.Author.Needs.{needs}
 use Rattle.floats.proofs.scan.any_not_finite.Statement.{statement}
 use Rattle.floats.proofs.scan.any_not_finite.Tie as tie

@@ -6,7 +6,7 @@ use lib.ListN.{length}
 use borrow.Author.Count.{below-none, below-more}
 use borrow.Author.Tests.{not-true, not-false}
 use Rattle.lists.proofs.First.{Passed, first-at, first-end}
-use Rattle.floats.specs.Float.{finiteAt}
+use Rattle.floats.specs.Floats.{finiteAt}
 use borrow.Author.Needs.{needs}
 use Rattle.floats.proofs.scan.first_not_finite.Statement.{statement}
 use Rattle.floats.proofs.scan.first_not_finite.Tie as tie

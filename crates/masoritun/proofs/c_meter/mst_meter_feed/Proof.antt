@@ -3,8 +3,8 @@ use mathlib.Core.Path.{_∙_, ap}
 use denote.Ref.{now}
 use lib.Ieee.{Float}
 use Rattle.meter.specs.declared.Meter.{Meter}
-use Rattle.masoritun.specs.Lent.{meterAt}
-use Rattle.pack.specs.Packed.{packed}
+use Rattle.masoritun.specs.Masoritun.{meterAt}
+use Rattle.pack.specs.Pack.{packed}
 use Rattle.masoritun.proofs.Left.{went-on, stood, stood-fits}
 use borrow.Author.Needs.{needs}
 use Rattle.masoritun.proofs.c_meter.mst_meter_feed.Statement.{statement}

@@ -1,8 +1,8 @@
 use mathlib.Core.Path.{_∙_, ap}
 use denote.Ref.{now}
 use Rattle.normalize.proofs.Place.{in-place-place}
-use Rattle.masoritun.specs.Lent.{settingsAt}
-use Rattle.pack.specs.Packed.{packed}
+use Rattle.masoritun.specs.Masoritun.{settingsAt}
+use Rattle.pack.specs.Pack.{packed}
 use Rattle.pack.proofs.Packing.{fits-word}
 use borrow.Author.Needs.{needs}
 use Rattle.masoritun.proofs.c_normalize.mst_normalize_in_place.Statement.{statement}

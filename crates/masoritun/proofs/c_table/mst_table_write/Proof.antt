@@ -4,7 +4,7 @@ use denote.Ref.{now}
 use lib.ListN.{length}
 use Rattle.table.specs.Release.{release}
 use Rattle.table.proofs.Place.{write-place}
-use Rattle.pack.specs.Packed.{packed}
+use Rattle.pack.specs.Pack.{packed}
 use borrow.Author.Needs.{needs}
 use Rattle.masoritun.proofs.c_table.mst_table_write.Statement.{statement}
 use Rattle.masoritun.proofs.c_table.mst_table_write.Tie as tie

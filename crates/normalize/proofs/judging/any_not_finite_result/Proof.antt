@@ -3,7 +3,7 @@ use mathlib.Core.Path.{ap, _∙_}
 use lib.Ieee.Scale.{finite}
 use lib.ListN.{length}
 use Rattle.lists.proofs.First.{Looked, looked-none, looked-more, looked-end}
-use Rattle.normalize.specs.Normal.{resultAt}
+use Rattle.normalize.specs.Normalize.{resultAt}
 use borrow.Author.Needs.{needs}
 use Rattle.normalize.proofs.judging.any_not_finite_result.Statement.{statement}
 use Rattle.normalize.proofs.judging.any_not_finite_result.Tie as tie

@@ -5,7 +5,7 @@ use lib.ListN.{length}
 use borrow.Author.Count.{below-none, below-more}
 use borrow.Author.Tests.{not-true, not-false}
 use Rattle.lists.proofs.First.{Passed, first-at, first-end}
-use Rattle.normalize.specs.Normal.{finiteAll, firstBad}
+use Rattle.normalize.specs.Normalize.{finiteAll, firstBad}
 use borrow.Author.Needs.{needs}
 use Rattle.normalize.proofs.judging.first_bad.Statement.{statement}
 use Rattle.normalize.proofs.judging.first_bad.Tie as tie

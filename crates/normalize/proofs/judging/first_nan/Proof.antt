@@ -6,7 +6,7 @@ use lib.Ieee.{isNan}
 use lib.ListN.{length}
 use borrow.Author.Count.{below-none, below-more}
 use Rattle.lists.proofs.First.{Passed, first-at, first-end}
-use Rattle.normalize.specs.Normal.{resultNumber, firstNanResult}
+use Rattle.normalize.specs.Normalize.{resultNumber, firstNanResult}
 use borrow.Author.Needs.{needs}
 use Rattle.normalize.proofs.judging.first_nan.Statement.{statement}
 use Rattle.normalize.proofs.judging.first_nan.Tie as tie

@@ -12,7 +12,7 @@ use Rattle.answer.specs.Answer.{Test}
 use Rattle.answer.specs.declared.Answer.{Answer}
 use Rattle.answer.specs.declared.Refusal.the-variants.{Domain, Result}
 use Rattle.answer.proofs.Chain.{Gives, clear, stop, skip, found, found-none, none-found, gives}
-use Rattle.normalize.specs.Normal.{tests, Fitted, firstBad, firstNanResult}
+use Rattle.normalize.specs.Normalize.{tests, Fitted, firstBad, firstNanResult}
 use Rattle.normalize.proofs.Passing.{fit}
 use Rattle.normalize.proofs.judging.judge.Statement.{statement}
 use Rattle.normalize.proofs.judging.judge.Tie as tie

@@ -2,17 +2,17 @@ use Prim.Native.Nat.{_+_, _-_, min}
 use mathlib.Core.Path.{_≡_}
 use native.Mathlib.Omega.{arith}
 use borrow.Author.Needs.{needs}
-use Rattle.quantize.specs.Code.{codeSteps, heldOf}
-use Rattle.quantize.proofs.Moved.{few, held-down, held-up}
-use Rattle.quantize.proofs.held.Statement.{statement}
-use Rattle.quantize.proofs.held.Tie as tie
+use Rattle.quantize.specs.Quantize.{codeSteps, clampOf}
+use Rattle.quantize.proofs.Moved.{few, clamp-down, clamp-up}
+use Rattle.quantize.proofs.clamp.Statement.{statement}
+use Rattle.quantize.proofs.clamp.Tie as tie
 
 -- what is promised below zero, and from zero on
-down : (c : tie.Then1) → (let x = c .before .before .args in x .zero-point - codeSteps (x .y) ≡ heldOf (x .zero-point) (x .y))
-down c = held-down _ _ (omega arith) (c .if1 .taken)
+down : (c : tie.Then1) → (let x = c .before .before .args in x .zero-point - codeSteps (x .y) ≡ clampOf (x .zero-point) (x .y))
+down c = clamp-down _ _ (omega arith) (c .if1 .taken)
 
-up : (c : tie.Else1) → (let x = c .before .before .args in min (x .zero-point + codeSteps (x .y)) 255 ≡ heldOf (x .zero-point) (x .y))
-up c = held-up _ _ (omega arith) (c .if1 .left)
+up : (c : tie.Else1) → (let x = c .before .before .args in min (x .zero-point + codeSteps (x .y)) 255 ≡ clampOf (x .zero-point) (x .y))
+up c = clamp-up _ _ (omega arith) (c .if1 .left)
 
 steps-requires : tie.Need-steps-requires
 steps-requires c κs = search needs
@@ -44,8 +44,8 @@ returns-3 c = omega (arith, up (c .before))
 returns-4 : tie.Need-returns-4
 returns-4 c = omega (arith, up (c .before))
 
-pub held-spec : {M : Type 1} → statement M
-held-spec =
+pub clamp-spec : {M : Type 1} → statement M
+clamp-spec =
     tie.close
     (tie.spec
     steps-requires

@@ -7,8 +7,8 @@ use lib.Dec.{eqb, ltb}
 use lib.ListN.{length, getD}
 use lib.Ieee.{Float, nan, binary32, add, sub, mul, eq, isNan}
 use lib.Ieee.Scale.{finite}
-use Rattle.lists.specs.Index.{tab, firstNot}
-use Rattle.floats.specs.Float.{mulAdd, finiteAt}
+use Rattle.lists.specs.Lists.{tab, firstNot}
+use Rattle.floats.specs.Floats.{mulAdd, finiteAt}
 use Rattle.floats.specs.Values.{zeroF, oneF}
 use Rattle.answer.specs.Answer.{Test, judged, whenDone, toldOf}
 use Rattle.answer.specs.Limits.{elementLimit}

@@ -7,7 +7,7 @@ use lib.ListN.{length}
 use lib.Ieee.{Float, nan, inf, fin, binary32, up, down, mul}
 use lib.Ieee.Nearest.{closest}
 use lib.Ieee.Scale.{finite}
-use Rattle.floats.specs.Float.{firstNotFinite}
+use Rattle.floats.specs.Floats.{firstNotFinite}
 use Rattle.answer.specs.Answer.{Test, judged, whenDone, toldOf}
 use Rattle.answer.specs.Limits.{elementLimit}
 use Rattle.answer.specs.declared.Answer.{Answer}
@@ -21,15 +21,15 @@ moved false zp n = min (zp + n) 255
 -- The product y to the nearest whole number, ties to even; plus zero point; held. `closest` is that number for y's size, m * up e / down e.
 -- An infinity saturates by its sign. No product of finite numbers is a NaN (`product-number`, proofs/Nearest.antt): its case is what the code's
 -- last line gives.
-unfoldable pub heldOf : ℕ → Float → ℕ
-heldOf zp nan = 255
-heldOf zp (inf true) = 0
-heldOf zp (inf false) = 255
-heldOf zp (fin s m e) = moved s zp (closest (m * up e) (down e))
+unfoldable pub clampOf : ℕ → Float → ℕ
+clampOf zp nan = 255
+clampOf zp (inf true) = 0
+clampOf zp (inf false) = 255
+clampOf zp (fin s m e) = moved s zp (closest (m * up e) (down e))
 
 -- x times inv_scale, rounded; to the nearest whole number; plus zero point; held to 0..255
 abbrev pub codeOf : Float → ℕ → Float → ℕ
-codeOf inv zp x = heldOf zp (mul binary32 x inv)
+codeOf inv zp x = clampOf zp (mul binary32 x inv)
 
 -- refusals 1, 2, 3, 4
 abbrev pub tests : Float → List Float → List ℕ → List Test

@@ -6,7 +6,7 @@ use lib.Ieee.{Float, nan, inf, fin, Format, binary32, up, down, round, add, sub,
 use lib.Ieee.Nearest.{closest}
 use lib.Ieee.Scale.{finite}
 use lib.ListN.{length, getD}
-use Rattle.lists.specs.Index.{firstNot}
+use Rattle.lists.specs.Lists.{firstNot}
 
 -- `mul_add(a, b, c)`: a times b, rounded, plus c, rounded (document 01, "One reading of every step")
 abbrev pub mulAdd : Float → Float → Float → Float
