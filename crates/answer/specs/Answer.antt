@@ -1,5 +1,6 @@
 -- Document 01, "Numbers a call may answer": each answer's number and place, the first of a call's tests that holds, and what a refusal leaves. Definitions only.
 use Prim.Native.Nat.{ℕ}
+use mathlib.Core.Path.{_≡_}
 use mathlib.Core.Bool.{Bool, true, false, cond}
 use mathlib.Core.List.{List, [], _∷_}
 use Rattle.answer.specs.declared.Refusal.{Refusal}
@@ -70,3 +71,8 @@ Test = Bool × Refusal
 unfoldable pub judged : List Test → Answer
 judged [] = Done
 judged (t ∷ ts) = cond (t .0) (Refused (t .1)) (judged ts)
+
+-- the answer tells t, and l is what is left where v is promised
+pub record Outcome {A : Type 0} (t : ℕ × ℕ) (v : A) (answer : Answer) (l : A) : Type 0 where
+  pub told : toldOf answer ≡ t
+  pub left : l ≡ v

@@ -3,9 +3,8 @@
 use mathlib.Core.List.{List, [], _∷_}
 use Prim.Native.Nat.{ℕ, _+_, _-_, _*_, _<_}
 use mathlib.Core.Bool.{Bool, true, false, not, _&&_, _||_, cond}
-use lib.IntN.{pos}
 use lib.Dec.{T, eqb, ltb}
-use lib.Ieee.{Float, fin, binary32, round, add, sub, mul, lt, le, ofBits, toSigned}
+use lib.Ieee.{Float, binary32, round, add, sub, mul, lt, le, ofBits, toSigned}
 use lib.Ieee.Fits.{and-i}
 use lib.Ieee.Scale.{finite}
 use Rattle.floats.specs.Values.{f32, zeroF, oneF, thirtyTwoF}
@@ -15,6 +14,7 @@ use Rattle.floats.specs.Floats.{mulAdd}
 use Rattle.floats.specs.Words.{addWord, subWord, shl23, truncWord}
 use Rattle.lists.proofs.Tests.{allOf, allBelow, below-at, holds, where-holds}
 use Rattle.exp_facts.proofs.Poly.{restLow, restHigh, polyTop}
+use Rattle.exp_facts.specs.ExpFacts.{large}
 
 abbrev pub quotient : ℕ → Float
 quotient i = round binary32 false (12582761 + i) 1
@@ -46,10 +46,6 @@ factor j = f32 (shl23 (addWord (truncWord j) 127))
 -- the largest result of a cell
 abbrev pub top : ℕ → Float
 top i = mul binary32 (mul binary32 polyTop (factor1 (steps i))) (factor2 (steps i))
-
--- 2 ^ 48
-abbrev pub large : Float
-large = fin false 1 (pos 48)
 
 -- what is tested of ReducedRangeExp in cell i
 pub record Reduced (i : ℕ) : Type 0 where

@@ -8,9 +8,9 @@ use Rattle.floats.specs.Values.{f32, zeroF, oneF, thirtyTwoF}
 use Rattle.consts.specs.Consts.{expOverflow, expUnderflow, expLowerCutoff}
 use Rattle.exp.specs.Exp.{jOf, expOf, reducedRangeExpOf}
 use Rattle.floats.proofs.Order.{le-numbers, le-trans-f, not-le, not-lt}
-use Rattle.floats.proofs.Between.{Between}
-use Rattle.exp_facts.proofs.Cells.{large}
-use Rattle.exp_facts.proofs.Scaled.{ExpRange, expFrom, reducedFrom, exp-inside, reduced-inside}
+use Rattle.floats.specs.Between.{Between}
+use Rattle.exp_facts.proofs.Scaled.{expFrom, reducedFrom, exp-inside, reduced-inside}
+use Rattle.exp_facts.specs.ExpFacts.{large, ExpRange, ExpFacts}
 
 -- ---- Exp
 numbers : T (not (isNan expOverflow)) × T (not (isNan expUnderflow)) × T (not (isNan expLowerCutoff))
@@ -83,3 +83,7 @@ reduced-zero = (refl, refl)
 pub reduced-masked : reducedRangeExpOf (inf true) ≡ zeroF
 unfolding reducedRangeExpOf lt ofBits
 reduced-masked = refl
+
+-- ---- all of it
+pub exp-facts : ExpFacts
+exp-facts = record { exp = exp-range; reduced = reduced-between; zeros = reduced-zero; masked = reduced-masked }

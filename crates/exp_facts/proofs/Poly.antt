@@ -8,7 +8,8 @@ use lib.Ieee.{Float, fin, add, mul, le, ofBits}
 use Rattle.consts.specs.Consts.{expPoly0, expPoly1, expPoly2, expPoly3, expPoly4, expPoly5, expPoly6}
 use Rattle.exp.specs.Exp.{polyOf}
 use Rattle.floats.specs.Values.{zeroF, oneF}
-use Rattle.floats.proofs.Between.{Between, between-wider, Row, rowsOk, fromEnd, toEnd, horner-between}
+use Rattle.floats.specs.Between.{Between}
+use Rattle.floats.proofs.Between.{between-wider, Row, rowsOk, fromEnd, toEnd, horner-between}
 
 -- the ends of the rest, and the largest value
 abbrev pub restLow : Float

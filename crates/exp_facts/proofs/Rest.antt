@@ -21,7 +21,8 @@ use Rattle.floats.proofs.Signed.{le→⊑}
 use Rattle.floats.proofs.Order.{le-trans-f, le-refl-f, le-total, finite-between}
 use Rattle.floats.proofs.Monotone.{add-mono, mul-mono-r}
 use Rattle.floats.proofs.Line.{on-line}
-use Rattle.floats.proofs.Between.{Between, between-wider, add-between}
+use Rattle.floats.specs.Between.{Between}
+use Rattle.floats.proofs.Between.{between-wider, add-between}
 use Rattle.exp_facts.proofs.Poly.{restLow, restHigh}
 use Rattle.exp_facts.proofs.Cells.{quotient, steps, lo, hi, Cell}
 

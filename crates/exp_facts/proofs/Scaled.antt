@@ -11,16 +11,12 @@ use Rattle.floats.specs.Values.{zeroF, oneF, thirtyTwoF}
 use Rattle.floats.specs.Floats.{mulAdd}
 use Rattle.floats.specs.Words.{truncWord}
 use Rattle.floats.proofs.Order.{le-trans-f}
-use Rattle.floats.proofs.Between.{scaled-between, Between, between-wider}
+use Rattle.floats.specs.Between.{Between}
+use Rattle.floats.proofs.Between.{scaled-between, between-wider}
 use Rattle.exp_facts.proofs.Poly.{restLow, polyTop, poly-between, poly-at-most-1}
-use Rattle.exp_facts.proofs.Cells.{quotient, steps, lo, hi, factor1, factor2, factor, top, large, Cell, cell}
+use Rattle.exp_facts.proofs.Cells.{quotient, steps, lo, hi, factor1, factor2, factor, top, Cell, cell}
 use Rattle.exp_facts.proofs.Rest.{rest-mono, cell-of, above-lo, below-hi, rest-between}
-
--- what is said of Exp's result y at x
-pub record ExpRange (x y : Float) : Type 0 where
-  pub from : T (le zeroF y)
-  pub to-32 : T (le x thirtyTwoF) → T (le y large)
-  pub to-0 : T (le x zeroF) → T (le y oneF)
+use Rattle.exp_facts.specs.ExpFacts.{large, ExpRange}
 
 -- from j on
 abbrev pub expFrom : Float → Float → Float

@@ -15,9 +15,7 @@ use Rattle.floats.proofs.Monotone.{add-mono, sub-mono, mul-mono-r, mul-
 use Rattle.floats.proofs.NotNegative.{mul-le}
 use Rattle.floats.specs.Values.{zeroF}
 use Rattle.lists.proofs.Tests.{allOf, holds}
-
-abbrev pub Between : Float → Float → Float → Type 0
-Between lo hi z = T (le lo z) × T (le z hi)
+use Rattle.floats.specs.Between.{Between}
 
 pub between-finite : (lo hi z : Float) → T (finite lo) → T (finite hi) → Between lo hi z → T (finite z)
 between-finite lo hi z p q b = finite-between lo z hi p q (b .0) (b .1)

@@ -1,15 +1,10 @@
--- Every element of a list, or some element, has a property. Assumes nothing.
-use Prim.Native.Nat.{ℕ, zero, suc, _<_, suc-le-suc}
+-- Laws of a property that every element of a list has. Assumes nothing.
+use Prim.Native.Nat.{zero, suc, suc-le-suc}
 use native.Mathlib.Nat.{zero-lt-suc, le-of-suc-le-suc}
 use mathlib.Core.List.{List, _∷_}
-use lib.ListN.{length, getD}
-use lib.Ieee.{Float, nan}
-
-abbrev pub Each : (Float → Type 0) → List Float → Type 0
-Each P s = (i : ℕ) → i < length s → P (getD s i nan)
-
-abbrev pub Some : (Float → Type 0) → List Float → Type 0
-Some P s = (i : ℕ) × (i < length s) × P (getD s i nan)
+use lib.ListN.{length}
+use lib.Ieee.{Float}
+use Rattle.floats.specs.Each.{Each}
 
 module _ (P : Float → Type 0) (x : Float) (s : List Float) where
   pub each-first : Each P (x ∷ s) → P x

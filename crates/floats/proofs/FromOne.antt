@@ -16,7 +16,7 @@ use Rattle.floats.proofs.Order.{le-trans-f, le-refl-f}
 use Rattle.floats.proofs.Monotone.{add-mono}
 use Rattle.floats.proofs.Magnitude.{div-below, below-between}
 use Rattle.floats.specs.Values.{zeroF, oneF}
-use Rattle.floats.proofs.Between.{Between}
+use Rattle.floats.specs.Between.{Between}
 
 ones : T (le oneF (add binary32 zeroF oneF)) × T (le oneF (add binary32 oneF zeroF))
 unfolding add le ofBits

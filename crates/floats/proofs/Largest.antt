@@ -17,7 +17,8 @@ use Rattle.floats.proofs.Signed.{le→⊑, ⊑→le, Rounds, rounded, r
 use Rattle.floats.proofs.Exact.{down-low, rounds-self}
 use Rattle.floats.specs.Values.{oneF, minusOneF, f32Min, f32Max}
 use Rattle.floats.proofs.FromOne.{no-sign}
-use Rattle.floats.proofs.Between.{Between, between-finite}
+use Rattle.floats.specs.Between.{Between}
+use Rattle.floats.proofs.Between.{between-finite}
 
 -- for `simp`: products by 0 and by 1
 ruleset units = (zero-mul, one-mul, mul-one)

@@ -10,6 +10,7 @@ use lib.Pow.{pow-pos}
 use lib.Ieee.{nearest}
 use lib.Ieee.Fits.{eq→eqb}
 use lib.Ieee.Nearest.{closest, closest-same}
+use Rattle.floats.specs.Between.{Near}
 
 -- ---- what `compare` says
 abbrev pub Cmp : Ordering → ℕ → ℕ → Type 0
@@ -45,10 +46,6 @@ closest-by a b o h = ap (nearest (a / b)) (cmp-one o (compare (a % b * 2) b) (a 
 -- a whole number is its own nearest
 pub closest-exact : (n c w : ℕ) → 0 < c → n ≡ w * c → closest n c ≡ w
 closest-exact n c w C e = closest-same n c w 1 C (lit< tt) (mul-one n ∙ e) ∙ rw (div-one, mod-one)
-
--- ---- q is within a half of a / b
-abbrev pub Near : ℕ → ℕ → ℕ → Type 0
-Near q a b = (q * b * 2 ≤ a * 2 + b) × (a * 2 ≤ q * b * 2 + b)
 
 near-at : (q r b a : ℕ) (o : Ordering) → Cmp o (r * 2) b → r < b → q * b + r ≡ a → Near (nearest q o) a b
 near-at q r b a Ordering·lt c l e = (omega arith, omega arith)

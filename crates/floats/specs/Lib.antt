@@ -2,3 +2,5 @@ pub mod Words
 pub mod Values
 pub mod Floats
 pub mod Fraction
+pub mod Each
+pub mod Between

@@ -3,7 +3,7 @@ use Prim.Native.Nat.{ℕ, zero, suc, _+_, _*_, _≤_, _<_}
 use mathlib.Core.Path.{_≡_, refl, sym, ap, ap₂}
 use mathlib.Core.Logic.{_⊎_, inl, inr, ⊎-elim}
 use native.Mathlib.Decide.{decLt}
-use native.Mathlib.Nat.{add-zero, add-suc, add-assoc, eq-or-lt-of-le, le-of-suc-le-suc}
+use native.Mathlib.Nat.{add-zero, add-suc, add-assoc, mul-zero, eq-or-lt-of-le, le-of-suc-le-suc}
 use native.Mathlib.Numerals.{add-one}
 use native.Mathlib.Omega.{arith}
 use Rattle.lists.specs.Lists.{sumTo}
@@ -46,6 +46,11 @@ pub sum-const : (c n : ℕ) → sumTo (λ i. c) n ≡ n * c
 unfolding sumTo
 sum-const c zero = omega arith
 sum-const c (suc n) = omega (arith, sum-const c n)
+
+pub sum-times : (c : ℕ) (f : ℕ → ℕ) (n : ℕ) → sumTo (λ j. c * f j) n ≡ c * sumTo f n
+unfolding sumTo
+sum-times c f zero = sym (mul-zero c)
+sum-times c f (suc n) = omega (arith, sum-times c f n)
 
 pub sum-term : (f : ℕ → ℕ) (n i : ℕ) → i < n → f i ≤ sumTo f n
 unfolding sumTo

@@ -1,6 +1,4 @@
 -- The count is the number of samples fed, over any number of accepted feedings. Assumes nothing.
---
---     count-is-fed : (n : Meter) (pieces : List (List Float)) → feedAll newMeter pieces ≡ Next n → n .count ≡ length (flatten pieces)
 use Prim.Native.Nat.{ℕ, _+_}
 use mathlib.Core.Path.{_≡_, refl, ap}
 use mathlib.Core.List.{List, [], _∷_, _++_, flatten}
@@ -12,6 +10,7 @@ use Rattle.meter.specs.Meter.{newMeter, feedOf, feedAll, onward}
 use Rattle.meter.specs.declared.Meter.{Meter}
 use Rattle.meter.specs.declared.Fed.{Fed}
 use Rattle.meter.specs.declared.Fed.the-variants.{Next, Refused}
+use Rattle.meter.specs.Claims.{CountIsFed}
 use Rattle.meter.proofs.Feed.{accepted}
 
 -- from any meter on
@@ -27,5 +26,5 @@ count-grows m n (s ∷ pieces) e = go (feedOf m s) refl (λ k. count-grows k n p
         omega (arith, rest k e, length-append s (flatten pieces))
     go (Refused r) f rest e = absurd (let z : _≡_ {A = ℕ} 0 1 = cc in omega arith)
 
-pub count-is-fed : (n : Meter) (pieces : List (List Float)) → feedAll newMeter pieces ≡ Next n → n .count ≡ length (flatten pieces)
+pub count-is-fed : CountIsFed
 count-is-fed n pieces e = omega (arith, count-grows newMeter n pieces e)

@@ -1,7 +1,4 @@
 -- Where the joined feeding isn't refused no piece is, and feeding the pieces in order gives the same meter. Assumes nothing.
---
---     two-pieces : (m n : Meter) (s t : List Float) → feedOf m (s ++ t) ≡ Next n → (k : Meter) × (feedOf m s ≡ Next k) × (feedOf k t ≡ Next n)
---     all-pieces : (m n : Meter) (pieces : List (List Float)) → feedOf m (flatten pieces) ≡ Next n → feedAll m pieces ≡ Next n
 use Prim.Native.Nat.{_+_}
 use mathlib.Core.Path.{_≡_, sym, _∙_, ap}
 use mathlib.Core.List.{List, [], _∷_, _++_, flatten}
@@ -13,9 +10,10 @@ use lib.ListN.{length, length-append, List·getD-append}
 use lib.Seq.{getD-append-add}
 use Rattle.min_max.proofs.Fold.{extreme-append, extreme-none}
 use Rattle.sum.proofs.Fold.{sum-append, sum-none}
-use Rattle.meter.specs.Meter.{nextOf, feedOf, feedAll}
+use Rattle.meter.specs.Meter.{nextOf, feedAll}
 use Rattle.meter.specs.declared.Meter.{Meter}
 use Rattle.meter.specs.declared.Fed.the-variants.{Next}
+use Rattle.meter.specs.Claims.{TwoPieces, AllPieces}
 use Rattle.meter.proofs.Feed.{Accepted, accepts, accepted}
 use Rattle.meter.proofs.Sound.{next-sound}
 
@@ -47,7 +45,7 @@ module _ (m : Meter) (s t : List Float) (a : Accepted m (s ++ t)) where
         each-finite = λ i h. ap finite (sym (getD-append-add s t i nan)) ∙ a .each-finite (length s + i) (omega arith);
       }
 
-pub two-pieces : (m n : Meter) (s t : List Float) → feedOf m (s ++ t) ≡ Next n → (k : Meter) × (feedOf m s ≡ Next k) × (feedOf k t ≡ Next n)
+pub two-pieces : TwoPieces
 two-pieces m n s t e =
     let a = accepted m (s ++ t) n e in (
       nextOf m s,
@@ -55,7 +53,7 @@ two-pieces m n s t e =
       sym (accepts (nextOf m s) t (second-accepted m s t (a .0))) ∙ ap Next (sym (a .1 ∙ next-append m s t)),
     )
 
-pub all-pieces : (m n : Meter) (pieces : List (List Float)) → feedOf m (flatten pieces) ≡ Next n → feedAll m pieces ≡ Next n
+pub all-pieces : AllPieces
 unfolding flatten feedAll
 all-pieces m n [] e = ap Next (sym (accepted m [] n e .1 ∙ next-none m))
 all-pieces m n (s ∷ pieces) e =

@@ -19,7 +19,7 @@ use Rattle.answer.specs.declared.Refusal.the-variants.{Length, TooMany, NotFini
 use Rattle.answer.proofs.Chain.{opened}
 use Rattle.answer.proofs.Numbers.{told-one}
 use Rattle.answer.specs.Limits.{elementLimit}
-use Rattle.floats.proofs.Each.{Each}
+use Rattle.floats.specs.Each.{Each}
 use Rattle.lists.proofs.First.{first-clear}
 use Rattle.lists.proofs.Tab.{tab-at, tab-length, tab-map}
 use Rattle.unary.specs.Unary.{evalOf, inDomain, alphaOk, firstOutside, tests, applyAnswer, applyTold, applyOut}

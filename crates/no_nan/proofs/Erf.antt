@@ -20,7 +20,8 @@ use Rattle.floats.proofs.NotNegative.{abs-le, square-le, mul-le}
 use Rattle.floats.proofs.Order.{le-total, le-numbers, not-lt}
 use Rattle.floats.proofs.Sign.{finite-number, neg-number, minus-square}
 use Rattle.floats.proofs.FromOne.{plus-one, one-over}
-use Rattle.floats.proofs.Between.{Between, between-finite, between-wider, between-neg, cond-between, add-between, sub-between, box, mul-between, Row, rowsOk, fromEnd, toEnd, horner, horner-between}
+use Rattle.floats.specs.Between.{Between}
+use Rattle.floats.proofs.Between.{between-finite, between-wider, between-neg, cond-between, add-between, sub-between, box, mul-between, Row, rowsOk, fromEnd, toEnd, horner, horner-between}
 use Rattle.floats.proofs.Largest.{fits-between}
 use Rattle.tanh.specs.Tanh.{tanhOf}
 use Rattle.lists.proofs.Tests.{allOf}

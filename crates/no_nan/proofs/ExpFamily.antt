@@ -11,7 +11,8 @@ use Rattle.floats.proofs.NoNan.{mul-number}
 use Rattle.floats.proofs.Order.{not-le}
 use Rattle.floats.proofs.Sign.{finite-number, neg-number}
 use Rattle.floats.proofs.FromOne.{plus-one, one-over}
-use Rattle.floats.proofs.Between.{Between, between-finite, between-wider, sub-between, box, mul-between}
+use Rattle.floats.specs.Between.{Between}
+use Rattle.floats.proofs.Between.{between-finite, between-wider, sub-between, box, mul-between}
 use Rattle.floats.proofs.Largest.{fits-between, div-finite}
 use Rattle.lists.proofs.Tests.{allOf}
 use Rattle.exp_facts.proofs.Facts.{exp-above, exp-at-most-0}

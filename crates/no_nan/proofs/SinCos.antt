@@ -20,7 +20,8 @@ use Rattle.floats.proofs.Order.{le-trans-f, lt→le}
 use Rattle.floats.proofs.Sign.{finite-number}
 use Rattle.floats.proofs.Signed.{⊑→le, le-neg}
 use Rattle.floats.proofs.FromOne.{plus-one}
-use Rattle.floats.proofs.Between.{Between, between-wider, box, mul-between}
+use Rattle.floats.specs.Between.{Between}
+use Rattle.floats.proofs.Between.{between-wider, box, mul-between}
 use Rattle.sin_cos.specs.SinCos.{minOf, maxOf, turnsOf, reducedOf, foldHigh, foldLow, foldOf, numerator, denominator, ratioOf, sinOf, cosOf}
 use Rattle.lists.proofs.Tests.{allOf}
 

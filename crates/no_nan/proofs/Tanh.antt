@@ -16,13 +16,14 @@ use Rattle.floats.proofs.Order.{le-trans-f, le-refl-f, le-numbers, not-le}
 use Rattle.floats.proofs.Sign.{finite-number}
 use Rattle.floats.proofs.Signed.{le-neg}
 use Rattle.floats.proofs.FromOne.{plus-one}
-use Rattle.floats.proofs.Between.{Between, between-finite, between-wider, between-neg, cond-between, add-between, sub-between, box, mul-between, Row, rowsOk, fromEnd, toEnd, horner, horner-between}
+use Rattle.floats.specs.Between.{Between}
+use Rattle.floats.proofs.Between.{between-finite, between-wider, between-neg, cond-between, add-between, sub-between, box, mul-between, Row, rowsOk, fromEnd, toEnd, horner, horner-between}
 use Rattle.floats.proofs.Largest.{div-unit}
 use Rattle.tanh.specs.Tanh.{smallOf, mediumOf, sizeOf, tanhOf}
 use Rattle.lists.proofs.Tests.{allOf}
-use Rattle.exp_facts.proofs.Cells.{large}
 use Rattle.exp_facts.proofs.Facts.{exp-at-most-32}
 use Rattle.no_nan.specs.NoNan.{Number}
+use Rattle.exp_facts.specs.ExpFacts.{large}
 
 -- ---- up to 0.55: the polynomial of the square, times the size
 abbrev rows : List Row

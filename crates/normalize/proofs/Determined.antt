@@ -4,7 +4,8 @@ use mathlib.Core.Bool.{Bool}
 use mathlib.Core.List.{List}
 use lib.Ieee.{Float}
 use Rattle.answer.specs.declared.Answer.{Answer}
-use Rattle.answer.proofs.Outcome.{Outcome, one-outcome}
+use Rattle.answer.specs.Answer.{Outcome}
+use Rattle.answer.proofs.Outcome.{one-outcome}
 use Rattle.normalize.specs.declared.Settings.{Settings}
 use Rattle.normalize.specs.Normalize.{inPlaceTold, inPlaceOut, normalizeTold, normalizeOut}
 

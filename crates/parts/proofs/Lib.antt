@@ -3,3 +3,4 @@ pub mod Shares
 pub mod Order
 pub mod Nearest
 pub mod Even
+pub mod Zero

@@ -11,7 +11,8 @@ use lib.Ieee.Fits.{down-pos}
 use lib.Ieee.Nearest.{closest}
 use lib.Ieee.Scale.{finite}
 use Rattle.floats.specs.Fraction.{Frac, frac}
-use Rattle.floats.proofs.Near.{Near, near}
+use Rattle.floats.specs.Between.{Near}
+use Rattle.floats.proofs.Near.{near}
 use Rattle.floats.proofs.Numbers.{less-or}
 use Rattle.floats.proofs.NoNan.{mul-number}
 use Rattle.floats.proofs.Sign.{finite-number}

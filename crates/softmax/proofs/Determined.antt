@@ -4,7 +4,8 @@ use mathlib.Core.List.{List}
 use mathlib.Core.Path.{_≡_}
 use lib.Ieee.{Float}
 use Rattle.answer.specs.declared.Answer.{Answer}
-use Rattle.answer.proofs.Outcome.{Outcome, one-outcome}
+use Rattle.answer.specs.Answer.{Outcome}
+use Rattle.answer.proofs.Outcome.{one-outcome}
 use Rattle.softmax.specs.Softmax.{softmaxTold, softmaxOut, inPlaceTold, inPlaceOut}
 
 -- the answer r and the last list l of dst, as the two clauses have them

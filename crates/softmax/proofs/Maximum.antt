@@ -19,7 +19,8 @@ use Rattle.floats.proofs.Exact.{sub-self-f}
 use Rattle.floats.proofs.Least.{min-finite}
 use Rattle.min_max.specs.MinMax.{keep, extremeFrom}
 use Rattle.softmax.specs.Softmax.{maxOf, inDomain}
-use Rattle.floats.proofs.Each.{Each, Some, each-first, each-rest, each-cons}
+use Rattle.floats.specs.Each.{Each, Some}
+use Rattle.floats.proofs.Each.{each-first, each-rest, each-cons}
 use Rattle.softmax.proofs.Domain.{in-domain}
 
 -- finite or masked

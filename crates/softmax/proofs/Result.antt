@@ -17,7 +17,7 @@ use Rattle.floats.specs.Values.{zeroF}
 use Rattle.lists.specs.Lists.{tab}
 use Rattle.lists.proofs.First.{first-clear}
 use Rattle.softmax.specs.Softmax.{maxOf, expLess, expsOf, sumOf, scaledBy, weightsOf, allMasked, firstOutside, resultOf, inPlaceAnswer}
-use Rattle.floats.proofs.Each.{Each}
+use Rattle.floats.specs.Each.{Each}
 use Rattle.softmax.proofs.Maximum.{InDomain}
 
 module _ (s : List Float) where

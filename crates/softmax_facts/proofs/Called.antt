@@ -22,9 +22,10 @@ use Rattle.lists.proofs.Tab.{tab-length, tab-at}
 use Rattle.softmax.specs.Softmax.{isMasked, firstOutside, allMasked, weightsOf, resultOf, tests, inPlaceAnswer, inPlaceTold, inPlaceOut, softmaxAnswer, softmaxTold, softmaxOut}
 use Rattle.softmax.proofs.Domain.{in-domain}
 use Rattle.softmax.proofs.Maximum.{InDomain}
-use Rattle.floats.proofs.Each.{Each, Some}
-use Rattle.floats.proofs.Between.{Between}
-use Rattle.softmax_facts.proofs.Facts.{Input, weights-length, softmax-facts}
+use Rattle.floats.specs.Each.{Each, Some}
+use Rattle.floats.specs.Between.{Between}
+use Rattle.softmax_facts.specs.SoftmaxFacts.{Input}
+use Rattle.softmax_facts.proofs.Facts.{weights-length, softmax-facts}
 
 pub record Called (flush : Bool) (s d : List Float) : Type 0 where
   pub told : softmaxTold flush s d ≡ (0, 0)

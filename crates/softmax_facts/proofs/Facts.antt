@@ -5,19 +5,17 @@ use mathlib.Core.Logic.{inl, inr}
 use mathlib.Core.List.{List, map}
 use Prim.Native.Nat.{ℕ, _^_, _≤_, _<_}
 use native.Mathlib.Nat.{le-trans}
-use mathlib.Core.Bool.{true, false, not}
+use mathlib.Core.Bool.{true}
 use lib.Dec.{T, lit≤}
 use lib.ListN.{length, getD}
-use lib.Ieee.{Float, nan, inf, binary32, sub, mul, div, le, fits, isNan, ofBits}
-use lib.Ieee.Exact.{HasValue}
-use lib.Ieee.Scale.{finite}
-use Rattle.answer.specs.Limits.{elementLimit}
+use lib.Ieee.{Float, nan, inf, binary32, sub, mul, div, le, ofBits}
 use Rattle.floats.specs.Values.{zeroF, oneF}
 use Rattle.exp.specs.Exp.{reducedRangeExpOf}
 use Rattle.floats.proofs.Order.{le-numbers}
 use Rattle.floats.proofs.Exact.{sub-self-f}
-use Rattle.floats.proofs.Each.{Each, Some}
-use Rattle.floats.proofs.Between.{Between, box, mul-between}
+use Rattle.floats.specs.Each.{Each, Some}
+use Rattle.floats.specs.Between.{Between}
+use Rattle.floats.proofs.Between.{box, mul-between}
 use Rattle.lists.proofs.Tests.{allOf}
 use Rattle.lists.proofs.Tab.{tab-map, tab-at, tab-length}
 use Rattle.softmax.specs.Softmax.{maxOf, expLess, expsOf, sumOf, weightsOf}
@@ -25,30 +23,9 @@ use Rattle.softmax.proofs.Maximum.{InDomain, max-is, less-max, masked-minus}
 use Rattle.exp_facts.proofs.Facts.{reduced-between, reduced-zero, reduced-masked}
 use Rattle.floats.proofs.FromOne.{one-over}
 use Rattle.floats.proofs.Least.{min-only}
-use Rattle.softmax_facts.proofs.Sum.{countF, count-value, sum-between, sum-from}
+use Rattle.softmax_facts.proofs.Sum.{count-value, sum-between, sum-from}
 use Rattle.softmax_facts.proofs.Reciprocal.{zero-times-recip}
-
--- (`Each P s`: every element of s has P. `Some P s`: some element has it. `countF n`: n as an f32.)
-pub record SoftmaxFacts (s : List Float) : Type 0 where
-  -- the exponentials: some is exactly 1, and none is above it
-  pub largest : Some (λ e. e ≡ oneF) (expsOf s)
-  pub exps-between : Each (Between zeroF oneF) (expsOf s)
-  -- the sum: from 1 to the element count, which f32 holds exactly
-  pub sum-from-one : T (le oneF (sumOf (expsOf s)))
-  pub sum-to-count : T (le (sumOf (expsOf s)) (countF (length s)))
-  pub count-exact : HasValue (countF (length s)) false (length s) 1
-  -- the outputs
-  pub same-length : length (weightsOf s) ≡ length s
-  pub outputs-between : Each (Between zeroF oneF) (weightsOf s)
-  pub no-nan : Each (λ w. T (not (isNan w))) (weightsOf s)
-  pub masked : (i : ℕ) → i < length s → getD s i nan ≡ inf true → getD (weightsOf s) i nan ≡ zeroF
-
--- what document 01 asks of the input; every element of an f32 slice fits
-pub record Input (s : List Float) : Type 0 where
-  pub few : length s ≤ elementLimit
-  pub domain : Each InDomain s
-  pub f32s : Each (λ x. T (fits binary32 x)) s
-  pub unmasked : Some (λ x. T (finite x)) s
+use Rattle.softmax_facts.specs.SoftmaxFacts.{countF, Input, SoftmaxFacts, Statement}
 
 -- ---- an element of a list that is made element by element
 pub map-at : (f : Float → Float) (s : List Float) (i : ℕ) → i < length s → getD (map f s) i nan ≡ f (getD s i nan)
@@ -156,3 +133,6 @@ module _ (s : List Float) (I : Input s) where
     no-nan = λ i h. le-numbers zeroF (getD (weightsOf s) i nan) (outputs-between i h .0) .1;
     masked = masked-zero;
   }
+
+pub all-facts : Statement
+all-facts = softmax-facts

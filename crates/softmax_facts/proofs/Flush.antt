@@ -19,9 +19,11 @@ use Rattle.lists.proofs.Tests.{both}
 use Rattle.lists.proofs.Tab.{tab-length, tab-at}
 use Rattle.sum.specs.Sum.{sumFrom}
 use Rattle.softmax.specs.Softmax.{isMasked, allMasked, expsOf, sumOf, weightsOf, resultOf}
-use Rattle.floats.proofs.Each.{Each, each-first, each-rest}
+use Rattle.floats.specs.Each.{Each}
+use Rattle.floats.proofs.Each.{each-first, each-rest}
 use Rattle.softmax.proofs.Maximum.{InDomain}
-use Rattle.softmax_facts.proofs.Facts.{Input, map-at, map-length, exps-length, masked-exp, weights-length, weights-at, softmax-facts}
+use Rattle.softmax_facts.specs.SoftmaxFacts.{Input}
+use Rattle.softmax_facts.proofs.Facts.{map-at, map-length, exps-length, masked-exp, weights-length, weights-at, softmax-facts}
 use Rattle.softmax_facts.proofs.Called.{some-or-none}
 
 -- `select(y, zero, y == y)`

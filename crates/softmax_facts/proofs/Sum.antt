@@ -18,14 +18,13 @@ use Rattle.floats.proofs.Sign.{finite-number}
 use Rattle.floats.proofs.Order.{le-trans-f, le-refl-f}
 use Rattle.floats.proofs.Monotone.{add-mono}
 use Rattle.floats.proofs.Exact.{add-same}
-use Rattle.floats.proofs.Each.{Each, Some, each-first, each-rest}
-use Rattle.floats.proofs.Between.{Between, between-finite}
+use Rattle.floats.specs.Each.{Each, Some}
+use Rattle.floats.proofs.Each.{each-first, each-rest}
+use Rattle.floats.specs.Between.{Between}
+use Rattle.floats.proofs.Between.{between-finite}
 use Rattle.sum.specs.Sum.{sumFrom}
 use Rattle.softmax.specs.Softmax.{sumOf}
-
--- a count as an f32; up to 2 ^ 24 it is exact
-abbrev pub countF : ℕ → Float
-countF n = round binary32 false n 1
+use Rattle.softmax_facts.specs.SoftmaxFacts.{countF}
 
 pub count-value : (n : ℕ) → n ≤ 2 ^ 24 → HasValue (countF n) false n 1
 count-value n h = round-whole binary32 false n h

@@ -19,9 +19,9 @@ use Rattle.answer.proofs.Chain.{Gives, skip, rest, gives, opened}
 use Rattle.answer.proofs.Numbers.{told-one}
 use Rattle.lists.proofs.First.{first-clear}
 use Rattle.softmax.specs.Softmax.{firstOutside, allMasked, softmaxAnswer, softmaxTold}
-use Rattle.floats.proofs.Each.{Each}
+use Rattle.floats.specs.Each.{Each}
 use Rattle.softmax_facts.proofs.Called.{some-or-none}
-use Rattle.softmax_facts.proofs.Facts.{Input}
+use Rattle.softmax_facts.specs.SoftmaxFacts.{Input}
 use Rattle.answer.specs.Limits.{bandLimit}
 use Rattle.split.specs.Split.{tests}
 

@@ -18,13 +18,16 @@ use lib.Ieee.Scale.{finite}
 use Rattle.floats.specs.Values.{zeroF, oneF}
 use Rattle.floats.proofs.Exact.{one-mul-f}
 use Rattle.floats.proofs.Signed.{le→⊑}
-use Rattle.floats.proofs.Between.{Between, between-finite}
+use Rattle.floats.specs.Between.{Between}
+use Rattle.floats.proofs.Between.{between-finite}
 use Rattle.floats.proofs.FromOne.{one-over}
 use Rattle.lists.proofs.Sum.{sum-term}
 use Rattle.lists.proofs.Tab.{tab-map, tab-at, tab-length}
 use Rattle.softmax.specs.Softmax.{expsOf, sumOf, weightsOf}
-use Rattle.softmax_facts.proofs.Facts.{Input, SoftmaxFacts, softmax-facts, exps-length, weights-at, weights-length}
-use Rattle.softmax_facts.proofs.Sum.{countF, count-finite}
+use Rattle.softmax_facts.specs.SoftmaxFacts.{Input, SoftmaxFacts}
+use Rattle.softmax_facts.proofs.Facts.{softmax-facts, exps-length, weights-at, weights-length}
+use Rattle.softmax_facts.specs.SoftmaxFacts.{countF}
+use Rattle.softmax_facts.proofs.Sum.{count-finite}
 use Rattle.floats.proofs.Order.{finite-between}
 use Rattle.answer.specs.Limits.{stepCount}
 use Rattle.parts.specs.Parts.{at, total}

@@ -20,20 +20,7 @@ use Rattle.answer.specs.Limits.{bandLimit}
 use Rattle.parts.specs.Parts.{total, lt1, left, ahead, rank, gain, gainsOver}
 use Rattle.split.specs.Split.{gainsOf, stepsOf, levelSteps, splitAnswer}
 use Rattle.split_facts.proofs.Equal.{equal-bands}
-use Rattle.split_facts.proofs.Splits.{Splits}
-
--- a list of one level, repeated, whatever finite level it is
-abbrev Equally : (Float → List Float) → List ℕ → Type 0
-Equally s l = (x : Float) → T (fits binary32 x) → T (finite x) → Splits (s x) l
-
--- the six cases; -100 is 0xc2c80000
-pub record SplitByHand : Type 0 where
-  pub one : Splits (zeroF ∷ []) (32768 ∷ [])
-  pub two : Splits (zeroF ∷ zeroF ∷ []) (16384 ∷ 16384 ∷ [])
-  pub three : Equally (λ x. x ∷ x ∷ x ∷ []) (10923 ∷ 10923 ∷ 10922 ∷ [])
-  pub five : Equally (λ x. x ∷ x ∷ x ∷ x ∷ x ∷ []) (6554 ∷ 6554 ∷ 6554 ∷ 6553 ∷ 6553 ∷ [])
-  pub far : Splits (zeroF ∷ f32 0xc2c8_0000 ∷ []) (32768 ∷ 0 ∷ [])
-  pub masked : Splits (zeroF ∷ inf true ∷ zeroF ∷ []) (16384 ∷ 0 ∷ 16384 ∷ [])
+use Rattle.split_facts.specs.SplitFacts.{Splits, Equally}
 
 -- ---- computed: the tests, and the gains
 record Computed (s : List Float) (l : List ℕ) : Type 0 where
@@ -62,13 +49,25 @@ zero-f32 : T (fits binary32 zeroF) × T (finite zeroF)
 unfolding ofBits fits
 zero-f32 = (tt, tt)
 
-pub split-by-hand : SplitByHand
+pub one : Splits (zeroF ∷ []) (32768 ∷ [])
 unfolding tab lt1
-split-by-hand = record {
-  one = equal-bands 1 zeroF (lit≤ tt) (lit≤ tt) (zero-f32 .0) (zero-f32 .1);
-  two = equal-bands 2 zeroF (lit≤ tt) (lit≤ tt) (zero-f32 .0) (zero-f32 .1);
-  three = λ x F f. equal-bands 3 x (lit≤ tt) (lit≤ tt) F f;
-  five = λ x F f. equal-bands 5 x (lit≤ tt) (lit≤ tt) F f;
-  far = computed (far-masked .0);
-  masked = computed (far-masked .1);
-}
+one = equal-bands 1 zeroF (lit≤ tt) (lit≤ tt) (zero-f32 .0) (zero-f32 .1)
+
+pub two : Splits (zeroF ∷ zeroF ∷ []) (16384 ∷ 16384 ∷ [])
+unfolding tab lt1
+two = equal-bands 2 zeroF (lit≤ tt) (lit≤ tt) (zero-f32 .0) (zero-f32 .1)
+
+pub three : Equally (λ x. x ∷ x ∷ x ∷ []) (10923 ∷ 10923 ∷ 10922 ∷ [])
+unfolding tab lt1
+three x F f = equal-bands 3 x (lit≤ tt) (lit≤ tt) F f
+
+pub five : Equally (λ x. x ∷ x ∷ x ∷ x ∷ x ∷ []) (6554 ∷ 6554 ∷ 6554 ∷ 6553 ∷ 6553 ∷ [])
+unfolding tab lt1
+five x F f = equal-bands 5 x (lit≤ tt) (lit≤ tt) F f
+
+-- -100 is 0xc2c80000
+pub far : Splits (zeroF ∷ f32 0xc2c8_0000 ∷ []) (32768 ∷ 0 ∷ [])
+far = computed (far-masked .0)
+
+pub masked : Splits (zeroF ∷ inf true ∷ zeroF ∷ []) (16384 ∷ 0 ∷ 16384 ∷ [])
+masked = computed (far-masked .1)

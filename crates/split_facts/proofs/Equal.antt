@@ -18,7 +18,8 @@ use Rattle.answer.specs.Limits.{parts, bandLimit}
 use Rattle.parts.specs.Parts.{total, lt1}
 use Rattle.split.specs.Split.{gainsOf, stepsOf, levelSteps}
 use Rattle.parts.proofs.Even.{evens-total, evens-gains}
-use Rattle.split_facts.proofs.Splits.{Levels, Splits, levels-total, levels-split}
+use Rattle.split_facts.specs.SplitFacts.{Levels, Splits, EqualBands}
+use Rattle.split_facts.proofs.Splits.{levels-total, levels-split}
 
 -- equal levels have equal steps
 module _ (n : ℕ) (x : Float) where
@@ -67,7 +68,10 @@ module _ (n : ℕ) (x : Float) (some : 1 ≤ n) (few : n ≤ bandLimit) (F : T (
         )
   ]
 
-  pub equal-bands : Splits (replicate n x) (tab (λ i. parts / n + lt1 i (parts % n)) n)
-  equal-bands =
+  equal : Splits (replicate n x) (tab (λ i. parts / n + lt1 i (parts % n)) n)
+  equal =
       subst (Splits (replicate n x)) (ap gainsOf (equal-steps n x) ∙ evens-gains parts n (step n x) step-some)
       (levels-split (replicate n x) equal-levels)
+
+pub equal-bands : EqualBands
+equal-bands n x some few F f = equal n x some few F f

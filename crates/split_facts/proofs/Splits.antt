@@ -1,40 +1,29 @@
 -- The levels that demand 3 speaks of: what the call tells and leaves of them, and that steps are nearest to the weights. Assumes nothing.
-use Prim.Native.Nat.{ℕ, _*_, _≤_, _<_}
+use Prim.Native.Nat.{_*_, _≤_, _<_}
 use mathlib.Core.Path.{_≡_, refl, sym, ap}
 use mathlib.Core.Bool.{true, false}
 use mathlib.Core.List.{List}
 use native.Mathlib.Nat.{le-trans}
 use lib.Dec.{T, lit≤}
-use lib.ListN.{length, getD}
-use lib.Ieee.{Float, nan, inf, fin, binary32, fits}
+use lib.ListN.{getD}
+use lib.Ieee.{Float, nan, inf, fin}
 use lib.Ieee.Scale.{finite}
 use Rattle.answer.specs.Answer.{judged, toldOf, whenDone}
 use Rattle.answer.specs.declared.Answer.the-variants.{Done}
 use Rattle.answer.proofs.Chain.{gives}
 use Rattle.floats.specs.Fraction.{frac}
-use Rattle.floats.proofs.Near.{Near, near}
+use Rattle.floats.specs.Between.{Near}
+use Rattle.floats.proofs.Near.{near}
 use Rattle.floats.proofs.Signed.{by-pos}
 use Rattle.softmax.specs.Softmax.{inDomain}
-use Rattle.floats.proofs.Each.{Each, Some}
 use Rattle.softmax_facts.proofs.Called.{called}
-use Rattle.softmax_facts.proofs.Facts.{Input}
-use Rattle.answer.specs.Limits.{stepCount, bandLimit}
+use Rattle.softmax_facts.specs.SoftmaxFacts.{Input}
+use Rattle.answer.specs.Limits.{stepCount}
 use Rattle.parts.specs.Parts.{total}
-use Rattle.split.specs.Split.{gainsOf, stepsOf, levelSteps, splitAnswer, splitTold, splitOut}
+use Rattle.split.specs.Split.{gainsOf, stepsOf, levelSteps, splitAnswer}
 use Rattle.split.proofs.Passed.{lastTests, softmax-rest, past-counts}
 use Rattle.split.proofs.Positive.{steps-total}
-
--- 1 to 16 levels, each an f32, none NaN or plus infinity, one at least not minus infinity
-pub record Levels (s : List Float) : Type 0 where
-  pub some : 1 ≤ length s
-  pub few : length s ≤ bandLimit
-  pub f32s : Each (λ x. T (fits binary32 x)) s
-  pub numbers : Each (λ x. (x ≡ nan → ⊥) × (x ≡ inf false → ⊥)) s
-  pub unmasked : Some (λ x. x ≡ inf true → ⊥) s
-
--- the call of the levels s is done and leaves l, whatever gains of their number are lent
-abbrev pub Splits : List Float → List ℕ → Type 0
-Splits s l = (g : List ℕ) → length g ≡ length s → (splitTold s g ≡ (0, 0)) × (splitOut s g ≡ l)
+use Rattle.split_facts.specs.SplitFacts.{Levels, Splits}
 
 -- ---- the levels are in softmax's domain
 in-domain : (x : Float) → (x ≡ nan → ⊥) → (x ≡ inf false → ⊥) → inDomain x ≡ true

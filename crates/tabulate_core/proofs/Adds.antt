@@ -20,7 +20,7 @@ use Rattle.lists.proofs.Tab.{tab-length, tab-at}
 use Rattle.answer.specs.Answer.{judged}
 use Rattle.answer.specs.declared.Answer.the-variants.{Done}
 use Rattle.answer.proofs.Chain.{done-is, opened, gives, skip, found-none, clear}
-use Rattle.floats.proofs.Each.{Each}
+use Rattle.floats.specs.Each.{Each}
 use Rattle.answer.specs.Limits.{parts, bandLimit}
 use Rattle.parts.specs.Parts.{at, total}
 use Rattle.split.specs.Split.{levelSteps, splitAnswer}

@@ -3,7 +3,8 @@ use mathlib.Core.List.{List}
 use mathlib.Core.Path.{_≡_}
 use lib.Ieee.{Float}
 use Rattle.answer.specs.declared.Answer.{Answer}
-use Rattle.answer.proofs.Outcome.{Outcome, one-outcome}
+use Rattle.answer.specs.Answer.{Outcome}
+use Rattle.answer.proofs.Outcome.{one-outcome}
 use Rattle.unary.specs.Unary.{applyTold, applyOut}
 use Rattle.unary.specs.declared.Op.{Op}
 

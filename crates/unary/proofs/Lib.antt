@@ -1,4 +1,4 @@
-pub mod Cases
+pub mod Arms
 pub mod Determined
 pub mod Place
 pub mod Shown

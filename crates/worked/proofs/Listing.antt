@@ -2,9 +2,8 @@
 use Prim.Native.Nat.{ℕ, _<_}
 use mathlib.Core.Path.{_≡_, refl, ap, subst, _∙_}
 use mathlib.Core.Bool.{true}
-use mathlib.Core.List.{List, [], _∷_, _++_}
+use mathlib.Core.List.{List, [], _∷_}
 use native.Mathlib.Omega.{arith}
-use lib.ListN.{replicate}
 use Rattle.lists.specs.Lists.{sumTo}
 use Rattle.lister_core.specs.Lister.{answerText, listedBy, listed}
 use Rattle.lister_core.proofs.Cases as lister
@@ -14,14 +13,7 @@ use Rattle.block.proofs.Cases as table
 use Rattle.table.proofs.Form1.{sound}
 use Rattle.table.proofs.Readable.{told-judged}
 use Rattle.table_facts.proofs.Written.{table-reads, some-block, gains-back}
-
-abbrev pub oneBand : List ℕ
-oneBand = 0x01 ∷ 0x00 ∷ 0x00 ∷ 0x00 ∷ 0x01 ∷ 0x00 ∷ 0x01 ∷ 0x00 ∷ 0x00 ∷ 0x80 ∷ replicate 498 0 ++ (0x83 ∷ 0x00 ∷ 0x0D ∷ 0x05 ∷ [])
-
--- `bands 1 rows 1` and `0 32768`, each with its line feed, in ASCII
-abbrev pub twoLines : List ℕ
-twoLines =
-    98 ∷ 97 ∷ 110 ∷ 100 ∷ 115 ∷ 32 ∷ 49 ∷ 32 ∷ 114 ∷ 111 ∷ 119 ∷ 115 ∷ 32 ∷ 49 ∷ 10 ∷ 48 ∷ 32 ∷ 51 ∷ 50 ∷ 55 ∷ 54 ∷ 56 ∷ 10 ∷ []
+use Rattle.worked.specs.Worked.{oneBand, twoLines}
 
 abbrev gains : List ℕ
 gains = 32768 ∷ []

@@ -14,10 +14,11 @@ use Rattle.answer.specs.Answer.{judged, isDone}
 use Rattle.answer.proofs.Chain.{breaks, ends}
 use Rattle.floats.specs.Values.{zeroF, oneF}
 use Rattle.softmax.specs.Softmax.{weightsOf}
-use Rattle.floats.proofs.Each.{Each}
-use Rattle.floats.proofs.Between.{Between}
+use Rattle.floats.specs.Each.{Each}
+use Rattle.floats.specs.Between.{Between}
 use Rattle.softmax_facts.proofs.Called.{called}
-use Rattle.softmax_facts.proofs.Facts.{Input, softmax-facts, weights-length}
+use Rattle.softmax_facts.specs.SoftmaxFacts.{Input}
+use Rattle.softmax_facts.proofs.Facts.{softmax-facts, weights-length}
 use Rattle.parts.specs.Parts.{total}
 use Rattle.split.specs.Split.{gainsOf, stepsOf, levelSteps, splitAnswer}
 use Rattle.split.proofs.Passed.{lastTests, softmax-rest, done-input, past-counts}

@@ -1,5 +1,5 @@
 use borrow.Author.Needs.{needs}
-use Rattle.unary.proofs.Cases.{no-alpha}
+use Rattle.unary.proofs.Arms.{no-alpha}
 use Rattle.unary.proofs.alpha_ok.Statement.{statement}
 use Rattle.unary.proofs.alpha_ok.Tie as tie
 

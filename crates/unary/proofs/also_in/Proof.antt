@@ -1,4 +1,4 @@
-use Rattle.unary.proofs.Cases.{no-more}
+use Rattle.unary.proofs.Arms.{no-more}
 use borrow.Author.Needs.{needs}
 use Rattle.unary.proofs.also_in.Statement.{statement}
 use Rattle.unary.proofs.also_in.Tie as tie

@@ -1,5 +1,5 @@
 -- In each arm op is the case matched, so its function's value is that of `evalOf op`; what `reduced_range_exp` asks, its domain gives (`not-above`).
-use Rattle.unary.proofs.Cases.{not-above}
+use Rattle.unary.proofs.Arms.{not-above}
 use borrow.Author.Needs.{needs}
 use Rattle.unary.proofs.eval.Statement.{statement}
 use Rattle.unary.proofs.eval.Tie as tie

@@ -1,5 +1,5 @@
 -- In each arm op is the case matched, so its loop's map is that of `evalOf op`; what `reduced_range_exp` asks besides, its domain gives (`not-above`).
-use Rattle.unary.proofs.Cases.{not-above}
+use Rattle.unary.proofs.Arms.{not-above}
 use borrow.Author.Needs.{needs}
 use Rattle.unary.proofs.fill.Statement.{statement}
 use Rattle.unary.proofs.fill.Tie as tie

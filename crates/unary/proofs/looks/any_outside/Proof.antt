@@ -1,7 +1,7 @@
 use denote.Ref.{now}
 use lib.Ieee.{nan}
 use lib.ListN.{getD}
-use Rattle.unary.proofs.Cases.{wide-in}
+use Rattle.unary.proofs.Arms.{wide-in}
 use borrow.Author.Needs.{needs}
 use Rattle.unary.proofs.looks.any_outside.Statement.{statement}
 use Rattle.unary.proofs.looks.any_outside.Tie as tie

@@ -1,0 +1,23 @@
+-- The claims on feedings in pieces. Statements only.
+use mathlib.Core.Path.{_≡_}
+use mathlib.Core.List.{List, _++_, flatten}
+use lib.Ieee.{Float}
+use lib.ListN.{length}
+use Rattle.meter.specs.Meter.{newMeter, feedOf, feedAll}
+use Rattle.meter.specs.declared.Meter.{Meter}
+use Rattle.meter.specs.declared.Fed.the-variants.{Next}
+
+-- where the joined feeding isn't refused, neither piece is, and feeding them in order gives its meter
+abbrev pub TwoPieces : Type 0
+TwoPieces =
+    (m n : Meter) (s t : List Float)
+    → feedOf m (s ++ t) ≡ Next n
+    → (k : Meter) × (feedOf m s ≡ Next k) × (feedOf k t ≡ Next n)
+
+-- so for any number of pieces
+abbrev pub AllPieces : Type 0
+AllPieces = (m n : Meter) (pieces : List (List Float)) → feedOf m (flatten pieces) ≡ Next n → feedAll m pieces ≡ Next n
+
+-- the count is the number of samples fed, over any number of feedings that are not refused
+abbrev pub CountIsFed : Type 0
+CountIsFed = (n : Meter) (pieces : List (List Float)) → feedAll newMeter pieces ≡ Next n → n .count ≡ length (flatten pieces)
