@@ -49,7 +49,7 @@ lines = []
 for n in table("FLOATS"):
     size = n & 0x7FFFFFFF
     away = size if size <= 0x7F800000 else n
-    lines.append(f"{n:08x} {rounded(n):08x} {away:08x} {'finite' if size < 0x7F800000 else 'not finite'}")
+    lines.append(f"{n:08x} {rounded(n):08x} {away:08x} {away:08x} {'finite' if size < 0x7F800000 else 'not finite'}")
 words = table("WORDS")
 for a in words:
     for b in words:

@@ -46,7 +46,7 @@ fn block_word(
 }
 
 // Block k of a table, at its place.
-pub fn write_block(
+fn write_block(
     form: u16,
     width: usize,
     bands: usize,

@@ -12,7 +12,7 @@ use consts::GELU_CUBE;
 use consts::SQRT_2_PI;
 use consts::SQRT_2_RCP;
 use exp::reduced_range_exp;
-use floats::bits::abs;
+use floats::bits::abs_by_order;
 use tanh::tanh;
 
 fn ratio(size: f32) -> f32
@@ -35,7 +35,7 @@ fn poly(t: f32) -> f32
 fn of_size(x: f32) -> f32
     ensures { λ r. ⌜ r ≡ sizeOf (absOf x) ⌝ }
 {
-    1.0 - poly(ratio(abs(x))) * reduced_range_exp(-(x * x))
+    1.0 - poly(ratio(abs_by_order(x))) * reduced_range_exp(-(x * x))
 }
 
 pub fn erf(x: f32) -> f32

@@ -1,6 +1,7 @@
 // Runs the f32 functions and the words of `floats` on their edges and writes what they give.
 // The expected output is made by tools/float_cases.py from document 01's words, with exact fractions.
 use floats::bits::abs;
+use floats::bits::abs_by_order;
 use floats::bits::from_pattern;
 use floats::bits::is_finite;
 use floats::bits::pattern;
@@ -83,6 +84,7 @@ fn float_line(n: u32) {
     word(n);
     word(pattern(round_ties_even(x)));
     word(pattern(abs(x)));
+    word(pattern(abs_by_order(x)));
     if is_finite(x) {
         io::write_all(STDOUT_FILENO, b"finite\n");
     } else {

@@ -110,3 +110,12 @@ abs-bits nan f n = absurd n
 abs-bits (inf true) f n = refl
 abs-bits (inf false) f n = refl
 abs-bits (fin s m e) f n = ap (ofBits binary32) (sign-off s m e f) ∙ ofBits-toBits binary32 (fin false m e) (fits-sign binary32 s false m e f)
+
+pub abs-no-nan : (x : Float) → T (fits binary32 x) → T (not (isNan x)) → T (not (nanBits binary32 (toBits binary32 x % 2 ^ 31)))
+unfolding isNan
+abs-no-nan x f n = rw (nanBits-is, abs-bits x f n) (go x n)
+  where
+    go : (x : Float) → T (not (isNan x)) → T (not (isNan (absOf x)))
+    go nan n = n
+    go (inf s) n = n
+    go (fin s m e) n = n

@@ -36,8 +36,18 @@ pub fn pattern(x: f32) -> u32
     f32::to_bits(x)
 }
 
-// The larger of x and 0 - x, +0 of the two zeros.
+// The pattern without its sign.
 pub fn abs(x: f32) -> f32
+    ensures { λ r. ⌜ r ≡ absOf x ⌝ }
+{
+    if x != x {
+        return x;
+    }
+    f32::from_bits(f32::to_bits(x) % 0x80000000)
+}
+
+// The same as the larger of x and 0 - x, +0 of the two zeros: for loops that run in lanes.
+pub fn abs_by_order(x: f32) -> f32
     ensures { λ r. ⌜ r ≡ absOf x ⌝ }
 {
     let minus = 0.0 - x;

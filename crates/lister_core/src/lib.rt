@@ -17,7 +17,7 @@ use answer::place;
 use digits::put_number;
 use digits::put_text;
 use table::TableAnswer;
-use table::judge::copy_gains;
+use table::gains::copy_gains;
 use table::shape_of;
 
 fn put_pair(word: &[u8], n: u64, between: &[u8], m: u64, at: usize, out: &mut [u8]) -> usize

@@ -1,3 +1,4 @@
+pub mod Cases
 pub mod Bits
 pub mod Shares
 pub mod Order

@@ -44,9 +44,9 @@ module _ (N : ℕ) (a : List ℕ) (some : 0 < total a) (i : ℕ) (none : at a i 
   unfolding left
   enough =
       let b = sum-le (remainder N a) (λ j. total a * more j) (length a)
-          (λ j l. by-lt 0 (remainder N a j)
-          (λ p e. omega (arith, mod-lt (N * at a j) some, ap (λ x. total a * x) e))
-          (λ p e. omega arith)) in
+      (λ j l. by-lt 0 (remainder N a j)
+      (λ p e. omega (arith, mod-lt (N * at a j) some, ap (λ x. total a * x) e))
+      (λ p e. omega arith)) in
       let e : sumTo (share N a) (length a) + left N a ≡ N = omega (arith, shares-fit N a some) in
       le-of-mul-le-mul-left {k = total a}
       (omega (arith, b, sum-times (total a) more (length a), split-all N a some, ap (λ x. total a * x) e)) some

@@ -7,7 +7,7 @@ ghost use Rattle.quantize.specs.Quantize.{codeSteps, clampOf, codeOf, qu
 use answer::Answer;
 use answer::Refusal;
 use answer::limits::ELEMENT_LIMIT;
-use floats::bits::abs;
+use floats::bits::abs_by_order;
 use floats::bits::is_finite;
 use floats::round::round_ties_even;
 use floats::scan::first_not_finite;
@@ -16,7 +16,7 @@ use floats::scan::first_not_finite;
 fn steps(y: f32) -> u32
     ensures { λ r. ⌜ r ≡ codeSteps y ⌝ }
 {
-    let size = round_ties_even(abs(y));
+    let size = round_ties_even(abs_by_order(y));
     if size < 256.0 {
         return size as u32;
     }

@@ -19,7 +19,7 @@ use parts::part;
 use softmax::softmax;
 
 // A weight in steps. The product is exact, and an f64 casts at every whole number below 2^32. (`abs` is for -0, which casts to none.)
-pub fn steps_of(weight: f32) -> u32
+fn steps_of(weight: f32) -> u32
     requires { ⌜ isWeight weight ⌝ }
     ensures { λ r. ⌜ (r ≡ stepsOf weight) × (r ≤ stepCount) ⌝ }
 {

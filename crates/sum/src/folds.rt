@@ -9,7 +9,7 @@ ghost use Rattle.floats.specs.Floats.{mulAdd};
 ghost use Rattle.sum.specs.Sum.{sumFrom};
 ghost use Rattle.sum.specs.declared.SumOp.the-variants.{Sum, SumSquare, SumAbs, SumSquareSub, SumExpSub};
 use exp::exp;
-use floats::bits::abs;
+use floats::bits::abs_by_order;
 
 fn square_add(d: f32, sum: f32) -> f32
     ensures { λ r. ⌜ r ≡ mulAdd d d sum ⌝ }
@@ -47,7 +47,7 @@ pub fn sum_abs(held: f32, src: &[f32]) -> f32
     let mut sum = held;
     let mut i = 0;
     while i < src.len() {
-        sum = sum + abs(src[i]);
+        sum = sum + abs_by_order(src[i]);
         i += 1;
     }
     sum

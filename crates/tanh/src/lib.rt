@@ -10,7 +10,7 @@ use consts::TANH_P9;
 use consts::TANH_SMALL;
 use consts::TANH_TINY;
 use exp::exp_within;
-use floats::bits::abs;
+use floats::bits::abs_by_order;
 
 fn small(square: f32, size: f32) -> f32
     ensures { λ r. ⌜ r ≡ smallOf square size ⌝ }
@@ -49,6 +49,6 @@ fn chosen(x: f32, size: f32) -> f32
 pub fn tanh(x: f32) -> f32
     ensures { λ r. ⌜ r ≡ tanhOf x ⌝ }
 {
-    let y = chosen(x, abs(x));
+    let y = chosen(x, abs_by_order(x));
     if x <= 0.0 { -y } else { y }
 }

@@ -15,7 +15,7 @@ use answer::Answer;
 use answer::Refusal;
 use answer::limits::ELEMENT_LIMIT;
 use consts::LARGE_THRESHOLD;
-use floats::bits::abs;
+use floats::bits::abs_by_order;
 use floats::bits::is_finite;
 
 pub enum Op {
@@ -38,8 +38,8 @@ fn also_in(op: Op, x: f32) -> bool
 {
     match op {
         Op::ReducedRangeExp => x <= 0.0,
-        Op::Sin => abs(x) < LARGE_THRESHOLD,
-        Op::Cos => abs(x) < LARGE_THRESHOLD,
+        Op::Sin => abs_by_order(x) < LARGE_THRESHOLD,
+        Op::Cos => abs_by_order(x) < LARGE_THRESHOLD,
         _ => true,
     }
 }
@@ -52,7 +52,7 @@ pub fn in_domain(op: Op, x: f32) -> bool
 }
 
 // For the crates above.
-pub fn alpha_ok(op: Op) -> bool
+fn alpha_ok(op: Op) -> bool
     ensures { λ r. ⌜ r ≡ alphaOk op ⌝ }
 {
     match op {

@@ -6,8 +6,8 @@ use Rattle.erf.specs.Erf.{sizeOf}
 use Rattle.erf.proofs.of_size.Statement.{statement}
 use Rattle.erf.proofs.of_size.Tie as tie
 
-abs-requires : tie.Need-abs-requires
-abs-requires c κs = search needs
+abs-by-order-requires : tie.Need-abs-by-order-requires
+abs-by-order-requires c κs = search needs
 
 ratio-requires : tie.Need-ratio-requires
 ratio-requires c κs = search needs
@@ -24,4 +24,4 @@ unfolding sizeOf
 returns c = cc (square-of-size binary32 (c .before .before .before .before .args .x))
 
 pub of-size-spec : {M : Type 1} → statement M
-of-size-spec = tie.close (tie.spec abs-requires ratio-requires poly-requires reduced-range-exp-requires returns)
+of-size-spec = tie.close (tie.spec abs-by-order-requires ratio-requires poly-requires reduced-range-exp-requires returns)

@@ -12,10 +12,10 @@ fit c = subst T (sym (c .good .0 .1)) tt
 
 -- what is cast or left is y's size, rounded
 size-is : (c : tie.After-round-ties-even) → c .round-ties-even .result ≡ sized (c .before .before .args .y)
-size-is c = c .round-ties-even .ensures ∙ ap (roundEven binary32) (c .before .abs .ensures)
+size-is c = c .round-ties-even .ensures ∙ ap (roundEven binary32) (c .before .abs-by-order .ensures)
 
-abs-requires : tie.Need-abs-requires
-abs-requires c κs = search needs
+abs-by-order-requires : tie.Need-abs-by-order-requires
+abs-by-order-requires c κs = search needs
 
 round-ties-even-requires : tie.Need-round-ties-even-requires
 round-ties-even-requires c κs = search needs
@@ -38,4 +38,4 @@ returns-2 c =
 pub steps-spec : {M : Type 1} → statement M
 steps-spec =
     tie.close
-    (tie.spec abs-requires round-ties-even-requires float-to-int-result returns returns-2)
+    (tie.spec abs-by-order-requires round-ties-even-requires float-to-int-result returns returns-2)

@@ -18,14 +18,14 @@ abbrev μ-loop : tie.MeasureT-loop
 loop-holds : tie.Need-loop-holds Inv-loop μ-loop
 loop-holds c = (search needs, refl)
 
-mul-abs : tie.Need-mul-abs Inv-loop μ-loop
-mul-abs c = search needs
+mul-abs-by-order : tie.Need-mul-abs-by-order Inv-loop μ-loop
+mul-abs-by-order c = search needs
 
-shared-slice-read-abs : tie.Need-shared-slice-read-abs Inv-loop μ-loop
-shared-slice-read-abs c = search needs
+shared-slice-read-abs-by-order : tie.Need-shared-slice-read-abs-by-order Inv-loop μ-loop
+shared-slice-read-abs-by-order c = search needs
 
-abs-requires : tie.Need-abs-requires Inv-loop μ-loop
-abs-requires c κs = search needs
+abs-by-order-requires : tie.Need-abs-by-order-requires Inv-loop μ-loop
+abs-by-order-requires c κs = search needs
 
 add-i : tie.Need-add-i Inv-loop μ-loop
 add-i c = search needs
@@ -36,7 +36,7 @@ loop-less c = search needs
 loop-again : tie.Need-loop-again Inv-loop μ-loop
 loop-again c =
     let l = c .before .before .before in
-    (search needs, sum-more _ (l .before .before .args .src .now) (l .loop .i) (l .loop .sum) _ (c .before .before .loop-test .taken) (ap (add binary32 (l .loop .sum)) (c .abs .ensures)) ∙ l .loop .inv .1)
+    (search needs, sum-more _ (l .before .before .args .src .now) (l .loop .i) (l .loop .sum) _ (c .before .before .loop-test .taken) (ap (add binary32 (l .loop .sum)) (c .abs-by-order .ensures)) ∙ l .loop .inv .1)
 
 returns : tie.Need-returns Inv-loop μ-loop
 returns c =
@@ -50,9 +50,9 @@ sum-abs-spec =
     Inv-loop
     μ-loop
     loop-holds
-    mul-abs
-    shared-slice-read-abs
-    abs-requires
+    mul-abs-by-order
+    shared-slice-read-abs-by-order
+    abs-by-order-requires
     add-i
     loop-less
     loop-again
