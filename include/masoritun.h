@@ -1,5 +1,5 @@
-/* Masoritun from C and C++. The archive is libmasoritun.a (`rt staticlib masoritun`); the words are those of document 01, the
-   build definition.
+/* Masoritun from C and C++. The archive is libmasoritun.a (`rt staticlib masoritun`); the rule behind each call, step by step, is
+   in docs/RULES.md.
 
    THE BITS. Every answer is the same, bit for bit, where each float operation is rounded to nearest, ties to even, and subnormal
    numbers are kept. Another rounding mode, FTZ (small results become zero) and DAZ (small operands count as zero) change bits.
@@ -66,27 +66,28 @@ enum {
 static inline unsigned mst_number(uint64_t answer) { return answer & 255u; }
 static inline size_t mst_place(uint64_t answer) { return answer >> 8; }
 
-/* ---- Operators: dst[i] is the operator at src[i]. The domain is finite numbers. Each refuses 1 (m is not n), 2, 4. */
+/* ---- Operators: dst[i] is the operator at src[i]. The domain is finite numbers. Each refuses 1 (m is not n), 2, 4. In what
+   follows Exp, Sigmoid, Tanh and Erf are these operators themselves, and each sum, product and quotient is rounded once. */
 
 /* e to the x; +infinity at or above 104, +0 at or below -104. */
 uint64_t mst_exp(const float *src, size_t n, float *dst, size_t m);
 /* e to the x, domain also at most zero; +0 strictly below the cutoff (about -87.67). */
 uint64_t mst_reduced_range_exp(const float *src, size_t n, float *dst, size_t m);
-/* 1 / (1 + e to the -x). */
+/* 1 / (1 + Exp(-x)). */
 uint64_t mst_sigmoid(const float *src, size_t n, float *dst, size_t m);
-/* x sigmoid(x). */
+/* x / (1 + Exp(-x)): x divided by the rounded sum, not x times the sigmoid. */
 uint64_t mst_silu(const float *src, size_t n, float *dst, size_t m);
-/* x sigmoid(alpha x). Refuses 1, 2, 3 (alpha not finite), 4. */
+/* x Sigmoid(x alpha). Refuses 1, 2, 3 (alpha not finite), 4. */
 uint64_t mst_swish(float alpha, const float *src, size_t n, float *dst, size_t m);
-/* x at or above zero, else alpha (e to the x, less 1). Refuses 1, 2, 3 (alpha not finite), 4. */
+/* x at or above zero, else alpha (Exp(x) - 1). Refuses 1, 2, 3 (alpha not finite), 4. */
 uint64_t mst_elu(float alpha, const float *src, size_t n, float *dst, size_t m);
 /* Hyperbolic tangent; the sign is flipped where x is at most zero, so +0 gives -0. */
 uint64_t mst_tanh(const float *src, size_t n, float *dst, size_t m);
 /* The error function, by a polynomial. */
 uint64_t mst_erf(const float *src, size_t n, float *dst, size_t m);
-/* x / 2 (1 + erf(x / root 2)). */
+/* (x 0.5) (Erf(x r) + 1), with r = 1 / root 2 as an f32. */
 uint64_t mst_gelu(const float *src, size_t n, float *dst, size_t m);
-/* The same with tanh in the place of erf. */
+/* (x 0.5) (Tanh((c 0.044715 + x) 0.79788456) + 1), with c = (x x) x. */
 uint64_t mst_approx_gelu(const float *src, size_t n, float *dst, size_t m);
 /* Sine, domain also below 48,000 in size. It reaches 1.0000002 in size. */
 uint64_t mst_sin(const float *src, size_t n, float *dst, size_t m);
@@ -145,7 +146,8 @@ uint64_t mst_split(const float *levels, size_t n, uint16_t *gains, size_t m);
 /* ---- Meter */
 
 /* Feeds n samples to the meter in the four numbers: count, sum of squares, least and largest. The domain is finite numbers.
-   Feeding pieces in order gives the meter of feeding them joined. Refuses 2 (n, or the count), 3, 4; the meter is kept then. */
+   Feeding pieces in order gives the meter of feeding them joined, where the joined feeding isn't refused. Refuses 2 (n, or the
+   count), 3, 4; the meter is kept then. */
 uint64_t mst_meter_feed(uint32_t *count, float *sum_squares, float *least, float *largest, const float *src, size_t n);
 
 typedef struct {

@@ -1,10 +1,11 @@
-//! The five sums and the extremes: one ordered pass over a slice.
+//! The five sums and the extremes of a slice. Each gives what one ordered pass gives: sums add from the first element to the last,
+//! and of equal extremes the first stays.
 
 use crate::ffi;
 use crate::guard::guarded;
 use crate::refusal::Refusal;
 
-/// A line for each pass to one number: its name and own offset, its C function, its domain, what it is, an example and why.
+/// A line for each that gives one number: its name and own offset, its C function, its domain, what it is, an example and why.
 macro_rules! folds {
     ($($name:ident($($offset:ident)?) $call:ident $domain:literal $about:literal
         $example:literal => $want:literal $($why:literal)?;)*) => {$(

@@ -6,7 +6,7 @@ use crate::refusal::Refusal;
 
 /// The count, sum of squares, least and largest of the samples fed.
 ///
-/// Feeding pieces in order gives the meter of the joined feeding, bit for bit.
+/// Feeding pieces in order gives the meter of the joined feeding, bit for bit, where the joined one isn't refused.
 #[derive(Clone, Copy, Debug, PartialEq)]
 pub struct Meter {
     /// How many samples were fed.

@@ -43,10 +43,10 @@ operators! {
         "`ReducedRangeExp`: e to the power of each element, +0 strictly below the cutoff (about -87.67)."
         "&[0.0, -88.0]" => "[1.0, 0.0]" "Document 01's worked case for 0; -88 is below the cutoff.";
     sigmoid() mst_sigmoid "finite"
-        "`Sigmoid`: 1 / (1 + e^-x)."
+        "`Sigmoid`: 1 / (1 + `Exp` of -x)."
         "&[0.0, 104.0]" => "[0.5, 1.0]" "1 / (1 + 1), and 1 / (1 + 0) because `Exp` of -104 is +0.";
     silu() mst_silu "finite"
-        "`Silu`: x / (1 + e^-x)."
+        "`Silu`: x / (1 + `Exp` of -x): x divided by the rounded sum, not x times the sigmoid."
         "&[0.0, 104.0]" => "[0.0, 104.0]" "0 / (1 + 1), and 104 / (1 + 0) because `Exp` of -104 is +0.";
     swish(alpha) mst_swish "finite"
         "`Swish`: x times the sigmoid of alpha times x."
@@ -61,7 +61,7 @@ operators! {
         "`Erf`: the error function."
         "&[10.0, -10.0]" => "[1.0, -1.0]" "e^-100 is below the cutoff, so 1 less nothing is left.";
     gelu() mst_gelu "finite"
-        "`Gelu`: half of x, times 1 plus erf of x by the root of 2."
+        "`Gelu`: half of x, times 1 plus `Erf` of x times 1/root 2."
         "&[20.0, -20.0]" => "[20.0, -0.0]" "erf is 1 and -1 there: 10 (1 + 1), and -10 times +0.";
     approx_gelu() mst_approx_gelu "finite"
         "`ApproxGelu`: half of x, times 1 plus tanh of 0.79788456 (x + 0.044715 x^3)."
