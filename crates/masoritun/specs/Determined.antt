@@ -46,11 +46,11 @@ pub record EachCall : Type 0 where
   pub mst-min-num : (src : List Float) → Determined (packed (minNumTold src .0)) (minNumTold src .1)
   -- the kernels over slices
   pub mst-softmax : (flush : Bool) (src dst : List Float) → Determined (packed (softmaxTold flush src dst)) (softmaxOut flush src dst)
-  pub mst-softmax-in-place : (flush : Bool) (data : List Float) → Determined (packed (softmax.inPlaceTold flush data)) (softmax.inPlaceOut flush data)
+  pub mst-softmax-in-place : (flush : Bool) (buf : List Float) → Determined (packed (softmax.inPlaceTold flush buf)) (softmax.inPlaceOut flush buf)
   pub mst-normalize : (st : Settings) (hs : Bool) (es : List Float) (hb : Bool) (eb src dst : List Float)
       → Determined (packed (normalizeTold st hs es hb eb src dst)) (normalizeOut st hs es hb eb src dst)
-  pub mst-normalize-in-place : (st : Settings) (hs : Bool) (es : List Float) (hb : Bool) (eb data : List Float)
-      → Determined (packed (normalize.inPlaceTold st hs es hb eb data)) (normalize.inPlaceOut st hs es hb eb data)
+  pub mst-normalize-in-place : (st : Settings) (hs : Bool) (es : List Float) (hb : Bool) (eb buf : List Float)
+      → Determined (packed (normalize.inPlaceTold st hs es hb eb buf)) (normalize.inPlaceOut st hs es hb eb buf)
   pub mst-quantize : (inv : Float) (zp : ℕ) (src : List Float) (dst : List ℕ) → Determined (packed (quantizeTold inv src dst)) (quantizeOut inv zp src dst)
   pub mst-split : (levels : List Float) (gains : List ℕ) → Determined (packed (splitTold levels gains)) (splitOut levels gains)
   -- a meter's four numbers; a table's bytes; gains with bands and rows; a block's form, bands, rows and rows held
