@@ -1,4 +1,4 @@
--- Document 01's list and the answers are one to one: each refusal's number is in the list, each number of the list is some refusal's,
+-- The list of RULES, Numbers, and the answers are one to one: each refusal's number is in the list, each number of the list is some refusal's,
 -- and number and place together tell which answer it is. Assumes nothing.
 use Prim.Native.Nat.{ℕ, _-_, _≤_}
 use mathlib.Core.Path.{_≡_, refl, sym, ap, _∙_}

@@ -1,4 +1,4 @@
--- Document 01, "Numbers a call may answer": each answer's number and place, the first of a call's tests that holds, and what a refusal leaves. Definitions only.
+-- RULES, Numbers: each answer's number and place, the first of a call's tests that holds, and what a refusal leaves. Definitions only.
 use Prim.Native.Nat.{ℕ}
 use mathlib.Core.Path.{_≡_}
 use mathlib.Core.Bool.{Bool, true, false, cond}

@@ -1,4 +1,4 @@
-// What a call may answer: document 01's numbered list, one variant for each number above 0.
+// What a call may answer: the numbered list (RULES, Numbers), one variant for each number above 0.
 ghost use mathlib.Core.Path.{_≡_};
 ghost use Rattle.answer.specs.Answer.{isDone, classOf, whereOf, numberOf, placeOf};
 
@@ -71,7 +71,7 @@ fn at(r: Refusal) -> usize
     }
 }
 
-// The answer's number in document 01's list.
+// The answer's number in the list.
 pub fn number(a: Answer) -> u8
     ensures { λ n. ⌜ n ≡ numberOf a ⌝ }
 {

@@ -1,4 +1,4 @@
-// The limits that document 01 names, one line each, and the numbers that follow from them; specs/Limits.antt says what each is for.
+// The limits (RULES, Numbers and Table), one line each, and the numbers that follow from them; specs/Limits.antt says what each is for.
 pub const ELEMENT_LIMIT: usize = 16384;
 
 pub const PARTS: usize = 32768;

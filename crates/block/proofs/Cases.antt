@@ -1,4 +1,4 @@
--- Document 01's worked case, the table of one band, one row, 32768, byte for byte; and a block with two faults. Assumes nothing.
+-- A worked case (RULES, Worked), the table of one band, one row, 32768, byte for byte; and a block with two faults. Assumes nothing.
 use mathlib.Core.Path.{_≡_, refl}
 use mathlib.Core.List.{[], _∷_, _++_}
 use lib.ListN.{replicate}

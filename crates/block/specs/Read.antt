@@ -1,4 +1,4 @@
--- Reading a block and a table, over a block's bytes f by their index: refusals 9, 10, 11, 1, 8 and 12 in document 01's order, and the gains.
+-- Reading a block and a table, over a block's bytes f by their index: refusals 9, 10, 11, 1, 8 and 12 in the order of RULES, Reading, and the gains.
 -- Definitions only.
 use Prim.Native.Nat.{ℕ, zero, suc, _+_, _-_, _*_, _/_, _%_}
 use mathlib.Core.Bool.{Bool, not, _&&_, _||_}

@@ -1,4 +1,4 @@
--- Writing a table: refusals 7, 1, 9 and 8 in document 01's order, and what is left in the lent bytes. Definitions only.
+-- Writing a table: refusals 7, 1, 9 and 8 in the order of RULES, Writing, and what is left in the lent bytes. Definitions only.
 use Prim.Native.Nat.{ℕ, _+_, _*_}
 use mathlib.Core.Bool.{Bool, not, _&&_}
 use mathlib.Core.List.{List, [], _∷_}

@@ -1,4 +1,4 @@
--- Each constant is the f32 nearest to its decimal, and the three that are no decimals are what document 01 says. Assumes nothing.
+-- Each constant is the f32 nearest to its decimal, and the three that are no decimals are what RULES, Constants, says. Assumes nothing.
 use Prim.Native.Nat.{_+_, _-_, _*_, _^_, _<_}
 use mathlib.Core.Path.{_≡_, refl}
 use mathlib.Core.Bool.{false}

@@ -1,5 +1,5 @@
 // Runs the f32 functions and the words of `floats` on their edges and writes what they give.
-// The expected output is made by tools/float_cases.py from document 01's words, with exact fractions.
+// The expected output is made by tools/float_cases.py from the words of RULES, Steps, with exact fractions.
 use floats::bits::abs;
 use floats::bits::abs_by_order;
 use floats::bits::from_pattern;

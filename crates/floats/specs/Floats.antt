@@ -8,7 +8,7 @@ use lib.Ieee.Scale.{finite}
 use lib.ListN.{length, getD}
 use Rattle.lists.specs.Lists.{firstNot}
 
--- `mul_add(a, b, c)`: a times b, rounded, plus c, rounded (document 01, "One reading of every step")
+-- `mul_add(a, b, c)`: a times b, rounded, plus c, rounded (RULES, Steps)
 abbrev pub mulAdd : Float → Float → Float → Float
 mulAdd a b c = add binary32 (mul binary32 a b) c
 

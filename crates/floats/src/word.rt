@@ -1,4 +1,4 @@
-// 32-bit words that wrap (document 01, "The forms we use").
+// 32-bit words that wrap (RULES, Steps).
 ghost use mathlib.Core.Path.{_≡_};
 ghost use Rattle.floats.specs.Words.{addWord, subWord, shl23};
 

@@ -1,4 +1,4 @@
--- Document 01's worked case: the lister's two lines for the table of one band, one row, 32768, `bands 1 rows 1` and `0 32768`. Assumes nothing.
+-- A worked case (RULES, Worked): the lister's two lines for the table of one band, one row, 32768, `bands 1 rows 1` and `0 32768`. Assumes nothing.
 use mathlib.Core.Path.{_≡_, refl, sym}
 use mathlib.Core.List.{[], _∷_}
 use native.Mathlib.Omega.{arith}

@@ -1,4 +1,4 @@
--- Document 01, the lister: all that it writes for an input. Definitions only.
+-- RULES, Lister: all that it writes for an input. Definitions only.
 use Prim.Native.Nat.{ℕ, zero, suc, _*_}
 use mathlib.Core.Bool.{cond}
 use mathlib.Core.List.{List, [], _++_}

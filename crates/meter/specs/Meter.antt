@@ -1,4 +1,4 @@
--- Document 01, "Meter": the start, the next meter, the refusals, what a feeding tells, and feedings that chain. Definitions only.
+-- RULES, Meter: the start, the next meter, the refusals, what a feeding tells, and feedings that chain. Definitions only.
 use Prim.Native.Nat.{ℕ, _+_}
 use mathlib.Core.Bool.{Bool, true, false, not, _&&_}
 use mathlib.Core.List.{List, [], _∷_}
@@ -40,7 +40,7 @@ nextOf m s =
 abbrev pub soundMeter : Meter → Bool
 soundMeter m = not (isNan (m .«sum_squares»)) && not (isNan (m .least)) && not (isNan (m .largest)) && not (lt (m .«sum_squares») zeroF)
 
--- document 01's refusals in order
+-- the refusals in order (RULES, Order)
 abbrev pub tests : Meter → List Float → List Test
 tests m s =
     (ltb elementLimit (length s), TooMany)

@@ -36,7 +36,7 @@ numberAt s i = not (isNan (getD s i nan))
 abbrev pub firstNan : List Float → ℕ
 firstNan s = firstNot (numberAt s) (length s)
 
--- document 01's refusals in order
+-- the refusals in order (RULES, Order)
 abbrev pub tests : List Float → List Test
 tests s = (ltb elementLimit (length s), TooMany) ∷ (ltb (firstNan s) (length s), Domain (firstNan s)) ∷ []
 

@@ -1,4 +1,4 @@
--- Document 01's operators in their domains, once over `Op`: none gives a NaN, and none but Exp gives an infinity.
+-- The operators in their domains (RULES, Domains), once over `Op`: none gives a NaN, and none but Exp gives an infinity.
 --
 --   no-nan : (op : Op) (x : Float) → Given op x → Number (evalOf op x)
 --   stays-finite : (op : Op) (x : Float) → Given op x → T (alphaFits op) → T (staysFinite op) → T (finite (evalOf op x))

@@ -1,4 +1,4 @@
--- normalize.rs (document 01, "One reading of every step"): the result at a place, and what the two calls answer and leave. Definitions only.
+-- normalize.rs (RULES, Normalize): the result at a place, and what the two calls answer and leave. Definitions only.
 use Prim.Native.Nat.{ℕ}
 use mathlib.Core.Path.{_≡_}
 use mathlib.Core.Bool.{Bool, true, false, cond, not, _&&_}

@@ -134,7 +134,7 @@ fn needs_search(st: Settings, hs: bool, es: &[f32], hb: bool, eb: &[f32], src: &
     any_not_finite_result(st, hs, es, hb, eb, src)
 }
 
-// Document 01's refusals 1, 2, 3, 4, 6, but for the length of what is written. It only reads.
+// Refusals 1, 2, 3, 4, 6 (RULES, Order), but for the length of what is written. It only reads.
 pub fn judge(st: Settings, hs: bool, es: &[f32], hb: bool, eb: &[f32], src: &[f32]) -> Answer
     ensures { λ r.
         ⌜ r ≡ judged (tests st hs (now (es .entry)) hb (now (eb .entry)) (now (src .entry))) ⌝ }

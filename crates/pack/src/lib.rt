@@ -1,4 +1,4 @@
-// An answer in one word: document 01's number in the low 8 bits, the place above.
+// An answer in one word: the number (RULES, Numbers) in the low 8 bits, the place above.
 ghost use mathlib.Core.Path.{_≡_};
 ghost use Prim.Native.Nat.{_^_, _<_};
 ghost use Rattle.answer.specs.Answer.{placeOf, toldOf};

@@ -1,4 +1,4 @@
--- N parts over the bands of a list of whole numbers, in the shares of its numbers (document 01, "Split"). Definitions only.
+-- N parts over the bands of a list of whole numbers, in the shares of its numbers (RULES, Split). Definitions only.
 use Prim.Native.Nat.{ℕ, _+_, _-_, _*_, _/_, _%_, _≤_, _<_}
 use mathlib.Core.Path.{_≡_}
 use mathlib.Core.Bool.{Bool, true, false, _||_, _&&_}
@@ -10,7 +10,7 @@ use Rattle.lists.specs.Lists.{sumTo, tab}
 abbrev pub at : List ℕ → ℕ → ℕ
 at xs i = getD xs i 0
 
--- the sum of a list; T of document 01, for the list a
+-- the sum of a list; T of RULES, Split, for the list a
 unfoldable pub total : List ℕ → ℕ
 total xs = sumTo (at xs) (length xs)
 

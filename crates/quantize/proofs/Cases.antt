@@ -1,4 +1,4 @@
--- Document 01's sums by hand for quantize, marked P there: their codes, computed. Assumes nothing.
+-- The sums by hand for quantize (RULES, Worked): their codes, computed. Assumes nothing.
 use mathlib.Core.Path.{_≡_, refl}
 use mathlib.Core.List.{List, [], _∷_, map}
 use lib.Ieee.{Float, ofBits, mul, round}

@@ -1,4 +1,4 @@
--- quantize.rs, to u8 (document 01, "One reading of every step"): the code of an element, and what the call answers and leaves. Definitions only.
+-- quantize.rs, to u8 (RULES, Quantize): the code of an element, and what the call answers and leaves. Definitions only.
 use Prim.Native.Nat.{ℕ, _+_, _-_, _*_, min}
 use mathlib.Core.Bool.{Bool, true, false, not}
 use mathlib.Core.List.{List, [], _∷_, map}

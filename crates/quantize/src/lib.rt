@@ -58,7 +58,7 @@ fn fill(inv_scale: f32, zero_point: u8, src: &[f32], dst: &mut [u8])
     }
 }
 
-// Document 01's refusals 1, 2, 3, 4; nothing is written before the last element has been looked at.
+// Refusals 1, 2, 3, 4 (RULES, Order); nothing is written before the last element has been looked at.
 pub fn quantize(inv_scale: f32, zero_point: u8, src: &[f32], dst: &mut [u8]) -> Answer
     ensures told { λ r. ⌜ toldOf r ≡ quantizeTold «inv_scale» (now (src .entry)) (now (dst .entry)) ⌝ }
     ensures written { λ r.

@@ -1,5 +1,5 @@
 // Runs quantize on stored lists and compares with the stored codes, of the Rust text over one lane for products to 2^30 and of
-// the reference, which is made from document 01, beyond.
+// the reference, which is made from docs/RULES.md, beyond.
 // A case is inv_scale, zero_point, n, n elements and n codes.
 ghost use Prim.Native.Nat.{_≤_};
 use answer::number;

@@ -1,4 +1,4 @@
--- softmax.rs over one lane (document 01, "Softmax"), each step rounded once, and what the two calls answer and leave. Definitions only.
+-- softmax.rs over one lane (RULES, Softmax), each step rounded once, and what the two calls answer and leave. Definitions only.
 use Prim.Native.Nat.{ℕ}
 use mathlib.Core.Bool.{Bool, false, cond, not, _&&_, _||_}
 use mathlib.Core.List.{List, [], _∷_, map}
@@ -63,7 +63,7 @@ allMasked s = ltb 0 (length s) && eqb (firstNot (λ i. isMasked (getD s i nan)) 
 unfoldable pub resultOf : List Float → List Float
 resultOf s = cond (allMasked s) (tab (λ i. zeroF) (length s)) (weightsOf s)
 
--- the tests of both calls, in document 01's order
+-- the tests of both calls, in the order of RULES, Order
 abbrev pub tests : Bool → List Float → List Test
 tests flush s =
     (ltb elementLimit (length s), TooMany)

@@ -75,7 +75,7 @@ fn all_masked(src: &[f32]) -> bool
     0 < i
 }
 
-// Document 01's refusals 2, 4 and 5, for both calls.
+// Refusals 2, 4 and 5 (RULES, Order), for both calls.
 fn judge(flush: bool, src: &[f32]) -> Answer
     ensures { λ r. ⌜ r ≡ inPlaceAnswer flush (now (src .entry)) ⌝ }
 {
@@ -151,7 +151,7 @@ fn clear(buf: &mut [f32])
     }
 }
 
-// Document 01's refusals 1, 2, 4, 5; nothing is written before the last element has been looked at.
+// Refusals 1, 2, 4, 5 (RULES, Order); nothing is written before the last element has been looked at.
 pub fn softmax(flush: bool, src: &[f32], dst: &mut [f32]) -> Answer
     ensures told { λ r. ⌜ toldOf r ≡ softmaxTold flush (now (src .entry)) (now (dst .entry)) ⌝ }
     ensures written { λ r. ⌜ now (dst .exit) ≡ softmaxOut flush (now (src .entry)) (now (dst .entry)) ⌝ }

@@ -1,4 +1,4 @@
--- Document 01, "Softmax": for input that is finite or masked, with one finite element or more, the largest exponential is exactly 1,
+-- RULES, Softmax: for input that is finite or masked, with one finite element or more, the largest exponential is exactly 1,
 -- the sum lies between 1 and the element count, and every output lies between 0 and 1, +0 where masked; none is a NaN. Assumes nothing.
 use mathlib.Core.Path.{_≡_, sym, ap, _∙_, subst}
 use mathlib.Core.Logic.{inl, inr}

@@ -1,4 +1,4 @@
--- The steps of the softmax weights, and what `split` answers and leaves (document 01, "Split"). Definitions only.
+-- The steps of the softmax weights, and what `split` answers and leaves (RULES, Split). Definitions only.
 use Prim.Native.Nat.{ℕ, _*_}
 use mathlib.Core.Bool.{not}
 use mathlib.Core.List.{List, [], _∷_, map}
@@ -23,7 +23,7 @@ stepsOf w = closest (frac w .over * stepCount) (frac w .by)
 abbrev pub isWeight : Float → Type 0
 isWeight w = T (le zeroF w) × T (le w oneF)
 
--- the numbers a of document 01: the softmax weights in steps
+-- the numbers a of RULES, Split: the softmax weights in steps
 unfoldable pub levelSteps : List Float → List ℕ
 levelSteps levels = map stepsOf (weightsOf levels)
 

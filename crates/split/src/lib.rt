@@ -1,4 +1,4 @@
-// Document 01's split: 32768 parts over the bands, in the shares of their softmax weights.
+// The split (RULES, Split): 32768 parts over the bands, in the shares of their softmax weights.
 ghost use mathlib.Core.List.{map};
 ghost use mathlib.Core.Path.{_≡_};
 ghost use Prim.Native.Nat.{ℕ, _<_, _≤_};
@@ -56,7 +56,7 @@ fn by_weights(levels: &[f32], weights: &mut [f32], steps: &mut [u32], gains: &mu
     answer
 }
 
-// Document 01's refusals 7, 1, 4, 5; nothing is written before the last.
+// Refusals 7, 1, 4, 5 (RULES, Order); nothing is written before the last.
 pub fn split(levels: &[f32], gains: &mut [u16]) -> Answer
     ensures told { λ r. ⌜ toldOf r ≡ splitTold (now (levels .entry)) (now (gains .entry)) ⌝ }
     ensures written { λ r. ⌜ now (gains .exit) ≡ splitOut (now (levels .entry)) (now (gains .entry)) ⌝ }

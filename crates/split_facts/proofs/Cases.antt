@@ -1,4 +1,4 @@
--- Document 01's sums by hand for the split, marked P there, of what the call tells and leaves. Assumes nothing.
+-- The sums by hand for the split (RULES, Worked), of what the call tells and leaves. Assumes nothing.
 use Prim.Native.Nat.{ℕ}
 use mathlib.Core.Path.{_≡_, refl, sym, ap, _∙_}
 use mathlib.Core.Bool.{true, false, not}

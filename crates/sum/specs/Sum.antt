@@ -36,7 +36,7 @@ offsetOk SumAbs = true
 offsetOk (SumSquareSub offset) = finite offset
 offsetOk (SumExpSub offset) = finite offset
 
--- document 01's refusals in order; the domain is finite
+-- the refusals in order (RULES, Order); the domain is finite
 abbrev pub tests : SumOp → List Float → List Test
 tests op s =
     (ltb elementLimit (length s), TooMany) ∷ (not (offsetOk op), NotFinite) ∷ (ltb (firstNotFinite s) (length s), Domain (firstNotFinite s)) ∷ []

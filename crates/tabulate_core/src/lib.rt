@@ -20,7 +20,7 @@ use floats::bits::from_pattern;
 use split::split;
 use table::LEAST;
 
-// Document 01's number and place, and the bytes of the table, 0 where refused.
+// The number and place (RULES, Numbers), and the bytes of the table, 0 where refused.
 pub struct Tabulated {
     pub number: u8,
     pub place: usize,

@@ -36,7 +36,7 @@ evalOf ApproxGelu x = approxGeluOf x
 evalOf Sin x = sinOf x
 evalOf Cos x = cosOf x
 
--- document 01, "Domains": finite for operators; also at most zero for ReducedRangeExp; also below 48,000 in size for Sin and Cos
+-- RULES, Domains: finite for operators; also at most zero for ReducedRangeExp; also below 48,000 in size for Sin and Cos
 abbrev pub alsoIn : Op → Float → Bool
 alsoIn Exp x = true
 alsoIn ReducedRangeExp x = le x zeroF
@@ -73,7 +73,7 @@ alphaOk Cos = true
 unfoldable pub firstOutside : Op → List Float → ℕ
 firstOutside op s = firstNot (λ i. inDomain op (getD s i nan)) (length s)
 
--- the tests of a call, in document 01's order
+-- the tests of a call, in the order of RULES, Order
 abbrev pub tests : Op → List Float → List Float → List Test
 tests op s d =
     (not (eqb (length s) (length d)), Length)

@@ -120,7 +120,7 @@ fn fill(op: Op, src: &[f32], dst: &mut [f32])
     }
 }
 
-// Document 01's refusals 1, 2, 3, 4; nothing is written before the last element has been looked at.
+// Refusals 1, 2, 3, 4 (RULES, Order); nothing is written before the last element has been looked at.
 pub fn apply(op: Op, src: &[f32], dst: &mut [f32]) -> Answer
     ensures told { λ r. ⌜ toldOf r ≡ applyTold op (now (src .entry)) (now (dst .entry)) ⌝ }
     ensures written { λ r. ⌜ now (dst .exit) ≡ applyOut op (now (src .entry)) (now (dst .entry)) ⌝ }

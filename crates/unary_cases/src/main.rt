@@ -1,6 +1,6 @@
-// Runs the calls that document 01 names and those where several things are wrong at once.
+// Runs the calls that docs/RULES.md names and those where several things are wrong at once.
 // A line is the case, the answer's number and place, and the first words of dst afterwards. The expected lines were worked out by
-// hand from document 01.
+// hand from docs/RULES.md.
 use answer::number;
 use answer::place;
 use floats::bits::from_pattern;

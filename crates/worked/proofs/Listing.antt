@@ -1,4 +1,4 @@
--- Document 01's table of one band, one row, 32768, and the lister's two lines for its bytes. Assumes nothing.
+-- The table of one band, one row, 32768, and the lister's two lines for its bytes. Assumes nothing.
 use Prim.Native.Nat.{ℕ, _<_}
 use mathlib.Core.Path.{_≡_, refl, ap, subst, _∙_}
 use mathlib.Core.Bool.{true}

@@ -41,7 +41,7 @@ abbrev pub twoLines : List ℕ
 twoLines =
     98 ∷ 97 ∷ 110 ∷ 100 ∷ 115 ∷ 32 ∷ 49 ∷ 32 ∷ 114 ∷ 111 ∷ 119 ∷ 115 ∷ 32 ∷ 49 ∷ 10 ∷ 48 ∷ 32 ∷ 51 ∷ 50 ∷ 55 ∷ 54 ∷ 56 ∷ 10 ∷ []
 
--- in document 01's order; -100 is 0xc2c80000, 104 is 0x42d00000, -104 is 0xc2d00000, -0 is 0x80000000;
+-- in the order of RULES, Worked; -100 is 0xc2c80000, 104 is 0x42d00000, -104 is 0xc2d00000, -0 is 0x80000000;
 -- 1.5, 2.5, -1, 300 and -0.5 are 0x3fc00000, 0x40200000, 0xbf800000, 0x43960000 and 0xbf000000
 abbrev pub cases : List Case
 cases =
