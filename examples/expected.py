@@ -1,7 +1,7 @@
 #!/usr/bin/env python3
 """Writes examples/expected/: what each example prints by document 01's words, by no code of the library. Run it at the top of the repository.
 
-Splits and softmax come from tools/split_cases.py (exact fractions, each step rounded once), stored bytes from tools/lister_cases.py,
+Splits and softmax come from tools/split_cases.py and tools/exact.py (exact fractions, each step rounded once), stored bytes from tools/lister_cases.py,
 the operators from the stored answers of the Rust text in crates/replay_unary/stdin.
 """
 import functools
@@ -10,12 +10,13 @@ from fractions import Fraction
 
 sys.dont_write_bytecode = True
 sys.path.insert(0, "tools")
+import exact
 import lister_cases
-import split_cases as exact
+import split_cases as splits
 
 MINUS_INF, PLUS_INF = exact.MINUS_INF, exact.INF
 # few different differences of levels occur here, and each takes milliseconds
-exact.reduced_range_exp = functools.lru_cache(None)(exact.reduced_range_exp)
+splits.reduced_range_exp = functools.lru_cache(None)(splits.reduced_range_exp)
 
 
 def pattern(v):
@@ -72,7 +73,7 @@ def normalized(scales, biases):
 
 def other_kernels():
     biases = [Fraction(1, 4), Fraction(1, 2), Fraction(-1)]
-    weights = hexes(map(pattern, exact.weights([pattern(x) for x in SOURCE])))
+    weights = hexes(map(pattern, splits.weights([pattern(x) for x in SOURCE])))
     yield line("softmax", 0, 0, weights)
     yield line("softmax_in_place", 0, 0, weights)
     yield line("normalize", 0, 0, normalized([1, 2, 4], biases))
@@ -81,7 +82,7 @@ def other_kernels():
 
 
 def ours():
-    gains = exact.gains([pattern(x) for x in SOURCE])
+    gains = splits.gains([pattern(x) for x in SOURCE])
     block = lister_cases.stored(3, [gains])[0]
     yield line("split", 0, 0, gains)
     yield line("meter_feed", 0, 0, [3, *hexes(map(pattern, [sum(x * x for x in SOURCE), min(SOURCE), max(SOURCE)]))])
@@ -137,7 +138,7 @@ def refusals():
 def split_table():
     rows = []
     for r in range(64):
-        rows.append(exact.gains([0, pattern(Fraction(-r, 8)), pattern(Fraction(-r, 4)), MINUS_INF if r % 2 else pattern(Fraction(-3, 2))]))
+        rows.append(splits.gains([0, pattern(Fraction(-r, 8)), pattern(Fraction(-r, 4)), MINUS_INF if r % 2 else pattern(Fraction(-3, 2))]))
         if r < 4:
             yield f"row {r}: {' '.join(map(str, rows[r]))}, sum {sum(rows[r])}"
     yield f"rows that add up to 32768: {sum(sum(row) == 32768 for row in rows)} of 64"
@@ -180,8 +181,8 @@ def null_test():
     for _ in range(BINS):
         levels = [pattern(Fraction(-(next(draw) >> 22), 64)) for _ in range(BANDS)]
         dry = [(next(draw) >> 8) - 2**23 for _ in range(SAMPLES)]
-        split.append((exact.gains(levels), dry))
-        alone.append(([(32768 * w + Fraction(1, 2)).__floor__() for w in exact.weights(levels)], dry))
+        split.append((splits.gains(levels), dry))
+        alone.append(([(32768 * w + Fraction(1, 2)).__floor__() for w in splits.weights(levels)], dry))
     yield f"{BINS} bins, {BANDS} bands, {BINS * SAMPLES} samples of 24 bits"
     yield from tallied("split", split)
     yield from tallied("each gain rounded by itself", alone)
@@ -190,7 +191,7 @@ def null_test():
 # ---- ftz.c, callback.cpp
 
 def small_weights():
-    return exact.weights([0, pattern(Fraction(-175, 2))])
+    return splits.weights([0, pattern(Fraction(-175, 2))])
 
 
 def flushed(v):
@@ -210,7 +211,7 @@ def ftz():
 
 
 def callback():
-    square = exact.rounded(exact.near("1e-22") ** 2)
+    square = exact.rounded(exact.f32("1e-22") ** 2)
     total = square
     for x in Fraction(1, 2), Fraction(-1), Fraction(1, 4):
         total = exact.rounded(total + x * x)

@@ -1,11 +1,11 @@
 #!/usr/bin/env python3
-"""Writes crates/lister_cases/data and crates/lister_cases/stdout: stored tables, good and damaged, and the lister's lines for each.
+"""Writes crates/lister_cases/data and stdout, and crates/lister/stdin and stdout: stored tables, good and damaged, and the lister's lines.
 
 Writing and reading follow document 01's words; nothing here comes from Rattle. Run it at the top of the repository.
 """
 import os
 
-CRATE = "crates/lister_cases"
+CRATE, PROGRAM = "crates/lister_cases", "crates/lister"
 LIMIT = 35328
 
 
@@ -112,6 +112,11 @@ def main():
         text.append(f"{name}\n{listed(data)}")
     with open(f"{CRATE}/stdout", "w", encoding="ascii") as f:
         f.write("".join(text))
+    one = b"".join(cases[0][1])
+    with open(f"{PROGRAM}/stdin", "wb") as f:
+        f.write(one)
+    with open(f"{PROGRAM}/stdout", "w", encoding="ascii") as f:
+        f.write(listed(one))
 
 
 if __name__ == "__main__":

@@ -5,41 +5,11 @@ f32 is worked out with exact fractions: a pattern becomes a fraction, a product 
 even. Run it at the top of the repository.
 """
 import re
-from fractions import Fraction
+
+from exact import key, nearest, value
 
 SOURCE = open("crates/meter_cases/src/main.rt", encoding="utf-8").read()
 SAMPLES = [int(x, 16) for x in re.findall(r"0x[0-9a-f]{8}", re.search(r"const SAMPLES.*?\];", SOURCE, re.S)[0])]
-
-
-def value(n):
-    """A finite pattern's value, exactly."""
-    field, digits = n >> 23 & 255, n & 0x7FFFFF
-    size = Fraction(digits + (0x800000 if field else 0)) * Fraction(2) ** (max(field, 1) - 150)
-    return -size if n >> 31 else size
-
-
-def nearest(v):
-    """The pattern of the f32 nearest to a value that is not negative, below the range's end."""
-    if v == 0:
-        return 0
-    e = -149
-    while v >= Fraction(2) ** (e + 24):
-        e += 1
-    q = v / Fraction(2) ** e
-    n = q.numerator // q.denominator
-    rest = q - n
-    if rest > Fraction(1, 2) or (rest == Fraction(1, 2) and n % 2):
-        n += 1
-    if n == 1 << 24:
-        n, e = n >> 1, e + 1
-    return n if n < 1 << 23 else (e + 150 << 23) + n - (1 << 23)
-
-
-def key(n):
-    """Orders patterns as numbers; both zeros are equal."""
-    if n & 0x7FFFFFFF == 0:
-        return 0
-    return -(n & 0x7FFFFFFF) if n >> 31 else n
 
 
 class Meter:

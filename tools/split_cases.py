@@ -1,54 +1,23 @@
 #!/usr/bin/env python3
 """Writes crates/split_cases/stdin and stdout: levels, and what document 01 gives for them.
 
-f32 is worked out with exact fractions: a pattern becomes a fraction, each product, sum or quotient is rounded once to the nearest
-f32, ties to even. The steps of exp.rs and softmax.rs are those of document 01. Run it at the top of the repository.
+Each product, sum or quotient is an exact fraction, rounded once (exact.py). The steps of exp.rs and softmax.rs are those of document 01.
+Run it at the top of the repository.
 """
 import random
 from fractions import Fraction
 
-NAN, INF, MINUS_INF, MASK = 0x7FC00000, 0x7F800000, 0xFF800000, 0x7FFFFFFF
-
-
-def value(n):
-    """A finite pattern's value, exactly."""
-    field, digits = n >> 23 & 255, n & 0x7FFFFF
-    size = Fraction(digits + (0x800000 if field else 0)) * Fraction(2) ** (max(field, 1) - 150)
-    return -size if n >> 31 else size
-
-
-def whole(q):
-    """The nearest whole number, ties to the even one."""
-    low = q.numerator // q.denominator
-    rest = q - low
-    return low + (1 if rest > Fraction(1, 2) or (rest == Fraction(1, 2) and low % 2) else 0)
-
-
-def rounded(v):
-    """The value of the f32 nearest to v."""
-    e = -149
-    while abs(v) >= Fraction(2) ** (e + 24):
-        e += 1
-    return whole(v / Fraction(2) ** e) * Fraction(2) ** e
-
-
-def f32(text):
-    return rounded(Fraction(text))
-
-
-def near(text):
-    return rounded(Fraction(text))
-
+from exact import INF, MASK, MINUS_INF, NAN, f32, nearest, rounded, value, whole
 
 def mul_add(a, b, c):
     return rounded(rounded(a * b) + c)
 
 
 # exp.rs
-LOG2_E, LN_2, MAGIC = near("1.442695040888963407"), near("0.693147180559945309"), Fraction(12582912)
-HI, LO = near("-6.93145752e-1"), near("-1.42860677e-6")
-POLY = [near(t) for t in "1.37805939e-3 8.37312452e-3 4.16695364e-2 1.66664720e-1 4.99999851e-1 1 1".split()]
-CUTOFF = rounded(rounded(Fraction("-126.5") * LN_2) + near("0.01"))
+LOG2_E, LN_2, MAGIC = f32("1.442695040888963407"), f32("0.693147180559945309"), Fraction(12582912)
+HI, LO = f32("-6.93145752e-1"), f32("-1.42860677e-6")
+POLY = [f32(t) for t in "1.37805939e-3 8.37312452e-3 4.16695364e-2 1.66664720e-1 4.99999851e-1 1 1".split()]
+CUTOFF = rounded(rounded(Fraction("-126.5") * LN_2) + f32("0.01"))
 
 
 def reduced_range_exp(x):
@@ -140,15 +109,6 @@ def cases():
             yield n, levels
             masked = [MINUS_INF if draw.randrange(3) == 0 else x for x in levels]
             yield n, masked
-
-
-def nearest(v):
-    """The pattern of an f32's value that is not negative, rounded first."""
-    v, e = rounded(v), -149
-    while v >= Fraction(2) ** (e + 24):
-        e += 1
-    n = int(v / Fraction(2) ** e)
-    return n if n < 1 << 23 else (e + 150 << 23) + n - (1 << 23)
 
 
 def main():

@@ -10,8 +10,9 @@ import re
 import struct
 from fractions import Fraction
 
+from exact import INF, MINUS_INF, NAN, nearest
 from lister_cases import stored
-from split_cases import INF, MINUS_INF, NAN, nearest, split
+from split_cases import split
 
 CASES, PROGRAM = "crates/tabulate_cases", "crates/tabulate"
 
