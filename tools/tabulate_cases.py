@@ -1,5 +1,5 @@
 #!/usr/bin/env python3
-"""Writes crates/tabulate_cases/data and stdout, and crates/tabulate/args, stdin and stdout: levels, and the table or the refusal for each.
+"""Writes crates/tabulate_cases/args, data and stdout, and crates/tabulate/args, stdin and stdout: levels, and the table or the refusal for each.
 
 Rows are split and stored by the functions of split_cases.py and lister_cases.py, which follow document 01; the rest follows
 docs/DECISIONS.md, point 12. Run it at the top of the repository.
@@ -98,7 +98,9 @@ def main():
     os.makedirs(f"{CASES}/data", exist_ok=True)
     for name, data in FILES.items():
         write(f"{CASES}/data/{name}", data)
-    write(f"{CASES}/stdout", b"".join(name.encode() + b" " + word + b"\n" + tabulated(word, FILES[name]) for name, word in RUNS))
+    write(f"{CASES}/args", b"".join(name.encode() + b"\n" + word + b"\n" for name, word in RUNS))
+    told = [name.encode() + b" " + word + b"\n" + tabulated(word, FILES[name]) for name, word in RUNS]
+    write(f"{CASES}/stdout", b"".join(told) + b"%d cases\n" % len(told))
     write(f"{PROGRAM}/args", b"3\n")
     write(f"{PROGRAM}/stdin", FILES["three"])
     write(f"{PROGRAM}/stdout", tabulated(b"3", FILES["three"]))

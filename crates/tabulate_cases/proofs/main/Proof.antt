@@ -1,0 +1,65 @@
+use Prim.Native.Nat.{_*_, _-_, _≤_, _<_}
+use borrow.Author.Needs.{needs}
+use Rattle.tabulate_cases.proofs.main.Statement.{statement}
+use Rattle.tabulate_cases.proofs.main.Tie as tie
+
+abbrev Inv-loop : tie.InvT-loop
+Inv-loop cases i₀ t3 i = (i ≤ cases) × (cases * 2 < 18446744073709551616)
+
+abbrev μ-loop : tie.MeasureT-loop
+μ-loop cases i₀ t3 i = cases - i
+
+arg-count-requires : tie.Need-arg-count-requires Inv-loop μ-loop
+arg-count-requires c κs = search needs
+
+loop-holds : tie.Need-loop-holds Inv-loop μ-loop
+loop-holds c = search needs
+
+mul-case : tie.Need-mul-case Inv-loop μ-loop
+mul-case c = search needs
+
+add-case : tie.Need-add-case Inv-loop μ-loop
+add-case c = search needs
+
+case-requires : tie.Need-case-requires Inv-loop μ-loop
+case-requires c κs = search needs
+
+add-i : tie.Need-add-i Inv-loop μ-loop
+add-i c = search needs
+
+loop-less : tie.Need-loop-less Inv-loop μ-loop
+loop-less c = search needs
+
+loop-again : tie.Need-loop-again Inv-loop μ-loop
+loop-again c = search needs
+
+print-decimal-requires : tie.Need-print-decimal-requires Inv-loop μ-loop
+print-decimal-requires c κs = search needs
+
+slice-aggregate-write-all : tie.Need-slice-aggregate-write-all Inv-loop μ-loop
+slice-aggregate-write-all c = search needs
+
+write-all-requires : tie.Need-write-all-requires Inv-loop μ-loop
+write-all-requires c κs = search needs
+
+returns : tie.Need-returns Inv-loop μ-loop
+returns c = search needs
+
+pub main-spec : {M : Type 1} → statement M
+main-spec =
+    tie.close
+    (tie.spec
+    Inv-loop
+    μ-loop
+    arg-count-requires
+    loop-holds
+    mul-case
+    add-case
+    case-requires
+    add-i
+    loop-less
+    loop-again
+    print-decimal-requires
+    slice-aggregate-write-all
+    write-all-requires
+    returns)
