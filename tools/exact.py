@@ -40,11 +40,11 @@ def f32(text):
 
 
 def nearest(v):
-    """The pattern of the f32 nearest to a value that is not negative, below the range's end."""
+    """The pattern of the f32 nearest to a value that is not negative; infinity's from the range's end on."""
     v = rounded(v)
     e = scale(v)
     n = int(v / Fraction(2) ** e)
-    return n if n < 1 << 23 else (e + 150 << 23) + n - (1 << 23)
+    return min(INF, n if n < 1 << 23 else (e + 150 << 23) + n - (1 << 23))
 
 
 def key(n):

@@ -1,50 +1,94 @@
 #!/usr/bin/env python3
-"""Writes crates/meter_cases/stdout from document 01's words, on the samples that stand in crates/meter_cases/src/main.rt.
+"""Writes crates/meter_cases/stdin and stdout: feedings, and the meter that document 01 gives after each.
 
-f32 is worked out with exact fractions: a pattern becomes a fraction, a product or a sum is rounded once to the nearest f32, ties to
-even. Run it at the top of the repository.
+A product or a sum is an exact fraction, rounded once (exact.py). Run it at the top of the repository.
 """
-import re
+from exact import INF, MASK, MINUS_INF, NAN, key, nearest, value
 
-from exact import key, nearest, value
-
-SOURCE = open("crates/meter_cases/src/main.rt", encoding="utf-8").read()
-SAMPLES = [int(x, 16) for x in re.findall(r"0x[0-9a-f]{8}", re.search(r"const SAMPLES.*?\];", SOURCE, re.S)[0])]
-
-
-class Meter:
-    def __init__(self):
-        self.count, self.squares, self.least, self.largest = 0, 0, 0x7F800000, 0xFF800000
-
-    def feed(self, samples):
-        for x in samples:
-            square = nearest(value(x) * value(x))
-            self.squares = nearest(value(square) + value(self.squares))
-            self.least = x if key(x) < key(self.least) else self.least
-            self.largest = x if key(x) > key(self.largest) else self.largest
-        self.count += len(samples)
-        return self
-
-    def line(self):
-        return f"{self.count} {self.squares:08x} {self.least:08x} {self.largest:08x}"
-
-
-ONE = 0x3F800000
-lines = ["new: " + Meter().line(), "whole: " + Meter().feed(SAMPLES).line()]
-half = Meter().feed(SAMPLES[:6])
-lines += ["first half: " + half.line(), "second half: " + half.feed(SAMPLES[6:]).line()]
-single = Meter()
-for sample in SAMPLES:
-    lines.append("one: " + single.feed([sample]).line())
-lines += [
-    "16385 samples: refused 2 0",
-    "16384 samples: " + Meter().feed([ONE] * 16384).line(),
-    "count full: refused 2 0",
-    "count full, no sample: 4294967295 00000000 00000000 00000000",
-    "NaN third: refused 4 2",
-    "meter with a NaN, no sample: refused 3 0",
-    "sum below zero: refused 3 0",
-    "sum -0: 1 80000000 00000000 00000000",
+ONE, MINUS_ZERO, MINUS_ONE = 0x3F800000, 0x80000000, 0xBF800000
+NEW = (0, 0, INF, MINUS_INF)
+FULL = 4294967295
+STORED = 12
+SAMPLES = [
+    0x3F000000, 0xBF800000, 0x00000000, 0x80000000, 0x3DCCCCCD, 0xBE99999A, 0x3F7FBE77, 0x00000001, 0xC0490FDB, 0x3A83126F, 0xBF666666, 0x3F8CCCCD,
 ]
-with open("crates/meter_cases/stdout", "w", encoding="utf-8") as out:
-    out.write("".join(line + "\n" for line in lines))
+
+
+def is_nan(n):
+    return n & MASK > INF
+
+
+def feed(meter, samples):
+    """Number, place and the meter afterwards."""
+    count, squares, least, largest = meter
+    if len(samples) > 16384 or count + len(samples) > FULL:
+        return 2, 0, meter
+    if is_nan(squares) or is_nan(least) or is_nan(largest) or key(squares) < 0:
+        return 3, 0, meter
+    for i, x in enumerate(samples):
+        if x & MASK >= INF:
+            return 4, i, meter
+    for x in samples:
+        square = nearest(value(x) * value(x))
+        squares = INF if INF in (square, squares) else nearest(value(square) + value(squares))
+        least = x if key(x) < key(least) else least
+        largest = x if key(x) > key(largest) else largest
+    return 0, 0, (count + len(samples), squares, least, largest)
+
+
+def cases():
+    """The meter that is given, None for the held one, and the samples."""
+    yield None, []
+    yield None, SAMPLES
+    yield NEW, SAMPLES[:6]
+    yield None, SAMPLES[6:]
+    for i, sample in enumerate(SAMPLES):
+        yield None if i else NEW, [sample]
+    # the limits of a feeding and of the count
+    yield NEW, [ONE] * 16385
+    yield NEW, [ONE] * 16384
+    yield (FULL, 0, 0, 0), [ONE]
+    yield (FULL, 0, 0, 0), []
+    yield (FULL - 1, 0, 0, 0), [ONE]
+    yield (FULL - 5, 0, 0, 0), SAMPLES[:6]
+    yield (FULL - 6, 0, 0, 0), SAMPLES[:6]
+    yield (FULL - 16384, 0, 0, 0), [ONE] * 16384
+    yield (FULL - 16383, 0, 0, 0), [ONE] * 16384
+    # meters that are refused, and those that are not
+    for bad in (NAN, 0, 0), (0, NAN, 0), (0, 0, NAN), (0x7F800001, 0xFFFFFFFF, NAN), (MINUS_ONE, 0, 0), (MINUS_INF, 0, 0), (0x80000001, 0, 0):
+        yield (1, *bad), []
+    for good in (MINUS_ZERO, 0, 0), (INF, 0, 0), (0, INF, INF), (0, MINUS_INF, MINUS_INF), (0, ONE, MINUS_ONE):
+        yield (1, *good), []
+        yield None, SAMPLES[:2]
+    # samples that are refused, and those that are not
+    yield NEW, [ONE, 0x40000000, NAN, NAN]
+    yield NEW, [INF]
+    yield NEW, [ONE, MINUS_INF]
+    yield NEW, [0x80000000, 0]
+    yield NEW, [0, 0x80000000]
+    yield NEW, [0x7F7FFFFF]
+    yield None, [0xFF7FFFFF, 1]
+    # several at once: 2 before 3 before 4
+    yield (FULL, NAN, 0, 0), [NAN]
+    yield (0, NAN, 0, 0), [NAN] + [ONE] * 16384
+    yield (0, NAN, 0, 0), [NAN]
+    yield (1, MINUS_ONE, 0, 0), [ONE, 0x40000000, NAN, NAN]
+
+
+def main():
+    asked, told, held = [], [], NEW
+    for given, samples in cases():
+        assert all(x == ONE for x in samples[STORED:])
+        stored = (samples + [ONE] * STORED)[:STORED]
+        asked.append(" ".join(f"{w:08x}" for w in [int(given is None), *(given or (0,) * 4), len(samples), *stored]))
+        number, place, held = feed(given or held, samples)
+        # a NaN is written as 7fc00000, whatever its pattern was
+        told.append(f"{number} {place} {held[0]} " + " ".join(f"{NAN if is_nan(w) else w:08x}" for w in held[1:]))
+    told.append(f"{len(asked)} cases")
+    for name, lines in ("stdin", asked), ("stdout", told):
+        with open("crates/meter_cases/" + name, "w", encoding="utf-8") as out:
+            out.write("".join(line + "\n" for line in lines))
+
+
+if __name__ == "__main__":
+    main()
