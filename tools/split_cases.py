@@ -20,15 +20,21 @@ POLY = [f32(t) for t in "1.37805939e-3 8.37312452e-3 4.16695364e-2 1.66664720e-1
 CUTOFF = rounded(rounded(Fraction("-126.5") * LN_2) + f32("0.01"))
 
 
-def reduced_range_exp(x):
-    if x < CUTOFF:
-        return Fraction(0)
+def exp_parts(x):
+    """k, and the polynomial of the rest."""
     j = rounded(mul_add(x, LOG2_E, MAGIC) - MAGIC)
     r = mul_add(j, LO, mul_add(j, HI, x))
     p = POLY[0]
     for c in POLY[1:]:
         p = mul_add(p, r, c)
-    return rounded(p * Fraction(2) ** int(j))
+    return int(j), p
+
+
+def reduced_range_exp(x):
+    if x < CUTOFF:
+        return Fraction(0)
+    k, p = exp_parts(x)
+    return rounded(p * Fraction(2) ** k)
 
 
 def weights(levels):

@@ -1,99 +1,96 @@
-// Runs the calls that docs/RULES.md names and those where several things are wrong at once.
-// A line is the case, the answer's number and place, and the first words of dst afterwards. The expected lines were worked out by
-// hand from docs/RULES.md.
+// Runs the operators on stored cases: the calls of RULES, Worked, the ends of each domain, and calls where several things are wrong at once.
+// A case is seven words: the operator's place in `Op`, alpha, how many elements of src and of dst are lent, and src's first three
+// elements; the others are +0, and dst holds sevens. A line is number, place, and dst afterwards, what is not lent too: each word that
+// is unlike the one before it, after its place. The last line says how many cases there were. tools/unary_cases.py makes both files.
+ghost use mathlib.Core.Path.{_≡_};
+ghost use Prim.Native.Nat.{_≤_};
+ghost use lib.ListN.{length};
 use answer::number;
 use answer::place;
 use floats::bits::from_pattern;
 use floats::bits::pattern;
+use hex_words::floats_at;
+use hex_words::places;
+use hex_words::word;
+use libc::STDIN_FILENO;
 use libc::STDOUT_FILENO;
 use unary::Op;
 use unary::apply;
 
-const NAN: u32 = 0x7fc00000;
-
-const INFINITY: u32 = 0x7f800000;
-
-fn words(dst: &[f32]) {
-    let mut i = 0;
-    while i < dst.len() {
-        if i == 3 {
-            return;
-        }
-        io::write_all(STDOUT_FILENO, b" ");
-        io::print_hex(STDOUT_FILENO, pattern(dst[i]) as u64, 8);
-        i += 1;
+fn op_of(code: u32, alpha: f32) -> Op {
+    match code {
+        0 => Op::Exp,
+        1 => Op::ReducedRangeExp,
+        2 => Op::Sigmoid,
+        3 => Op::Silu,
+        4 => Op::Swish(alpha),
+        5 => Op::Elu(alpha),
+        6 => Op::Tanh,
+        7 => Op::Erf,
+        8 => Op::Gelu,
+        9 => Op::ApproxGelu,
+        10 => Op::Sin,
+        _ => Op::Cos,
     }
 }
 
-fn run(label: &[u8], op: Op, src: &[f32], dst: &mut [f32]) {
-    let a = apply(op, src, dst);
-    io::write_all(STDOUT_FILENO, label);
-    io::write_all(STDOUT_FILENO, b": ");
-    io::print_decimal(STDOUT_FILENO, number(a) as u64);
-    io::write_all(STDOUT_FILENO, b" ");
-    io::print_decimal(STDOUT_FILENO, place(a) as u64);
-    words(dst);
-    io::write_all(STDOUT_FILENO, b"\n");
+fn put(byte: u8) {
+    let text = [byte];
+    io::write_all(STDOUT_FILENO, &text);
 }
 
-// Into three sevens.
-fn three(label: &[u8], op: Op, a: f32, b: f32, c: f32) {
-    let src = [a, b, c];
-    let mut dst = [7.0f32; 3];
-    run(label, op, &src, &mut dst);
+fn show_words(dst: &[f32; 16385]) {
+    // No number's pattern, so that the first word is shown.
+    let mut held: u32 = 0xffffffff;
+    for i in 0..16385 {
+        let next = pattern(dst[i]);
+        if next != held {
+            put(b' ');
+            io::print_decimal(STDOUT_FILENO, i as u64);
+            put(b':');
+            io::print_hex(STDOUT_FILENO, next as u64, 8);
+            held = next;
+        }
+    }
+    put(b'\n');
 }
 
-fn at_the_limit() {
-    let src = [0.0f32; 16384];
-    let mut dst = [7.0f32; 16384];
-    run(b"16384 elements", Op::Exp, &src, &mut dst);
+fn source(text: &[u8], from: usize) -> [f32; 16385]
+    requires { ⌜ from ≤ 131072 ⌝ }
+    ensures { λ r. ⌜ 16385 ≡ length r ⌝ }
+{
+    let mut src = [0.0f32; 16385];
+    floats_at(text, from, &mut src[..3]);
+    src
 }
 
-fn past_the_limit(label: &[u8], op: Op) {
-    let src = [0.0f32; 16385];
+fn case(text: &[u8], at: usize)
+    requires { ⌜ at ≤ 65536 ⌝ }
+{
+    let op = op_of(word(text, at), from_pattern(word(text, at + 1)));
+    // There is room for 16,385.
+    let n = word(text, at + 2) as usize % 16386;
+    let m = word(text, at + 3) as usize % 16386;
+    let src = source(text, at + 4);
     let mut dst = [7.0f32; 16385];
-    run(label, op, &src, &mut dst);
+    let answer = apply(op, &src[..n], &mut dst[..m]);
+    io::print_decimal(STDOUT_FILENO, number(answer) as u64);
+    put(b' ');
+    io::print_decimal(STDOUT_FILENO, place(answer) as u64);
+    show_words(&dst);
 }
 
-fn past_into_three(label: &[u8], op: Op) {
-    let src = [0.0f32; 16385];
-    let mut dst = [7.0f32; 3];
-    run(label, op, &src, &mut dst);
-}
-
-fn three_into_two(label: &[u8], op: Op, x: f32) {
-    let src = [x; 3];
-    let mut dst = [7.0f32; 2];
-    run(label, op, &src, &mut dst);
-}
-
-fn empty() {
-    let src = [0.0f32; 0];
-    let mut dst = [0.0f32; 0];
-    run(b"nothing", Op::Cos, &src, &mut dst);
-    run(
-        b"nothing, alpha infinite",
-        Op::Elu(from_pattern(INFINITY)),
-        &src,
-        &mut dst,
-    );
+fn run(text: &[u8]) {
+    let cases = places(text) / 7;
+    for i in 0..cases {
+        case(text, i * 7);
+    }
+    io::print_decimal(STDOUT_FILENO, cases as u64);
+    io::write_all(STDOUT_FILENO, b" cases\n");
 }
 
 fn main() {
-    let nan = from_pattern(NAN);
-    let inf = from_pattern(INFINITY);
-    at_the_limit();
-    past_the_limit(b"16385 elements", Op::Exp);
-    past_the_limit(b"16385 elements, alpha NaN", Op::Swish(nan));
-    past_into_three(b"16385 into 3", Op::Exp);
-    three_into_two(b"3 NaNs into 2, alpha NaN", Op::Elu(nan), nan);
-    empty();
-    three(b"sin of 48000", Op::Sin, 48000.0, 0.0, 0.0);
-    three(b"NaN second", Op::Tanh, 1.0, nan, nan);
-    three(b"infinity third", Op::Exp, 1.0, 1.0, inf);
-    three(b"above zero", Op::ReducedRangeExp, 0.0, -1.0, 0.5);
-    three(b"minus infinity", Op::ReducedRangeExp, -inf, 0.0, 0.0);
-    three(b"alpha NaN, NaN first", Op::Elu(nan), nan, 0.0, 0.0);
-    three(b"exp at its ends", Op::Exp, 104.0, -104.0, 0.0);
-    three(b"tanh of zeros", Op::Tanh, 0.0, -0.0, 9.5);
+    let mut text = io::large_buffer();
+    let n = io::read_full(STDIN_FILENO, &mut text);
+    run(&text[..n]);
 }
