@@ -1,3 +1,4 @@
+-- The first i places hold the results; those from i on are still the data, which the next result is worked out from.
 use Prim.Native.Nat.{_-_, _≤_}
 use native.Mathlib.Omega.{arith}
 use lib.Ieee.{nan}
