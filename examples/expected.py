@@ -1,27 +1,17 @@
 #!/usr/bin/env python3
 """Writes examples/expected/: what each example prints by document 01's words, by no code of the library. Run it at the top of the repository.
 
-Splits and softmax come from tools/split_cases.py and tools/exact.py (exact fractions, each step rounded once), stored bytes from tools/lister_cases.py,
+Splits and softmax come from tools/exact.py (exact fractions, each step rounded once), stored bytes from tools/stored_table.py,
 the operators from the stored answers of the Rust text in crates/replay_unary/stdin.
 """
-import functools
 import sys
 from fractions import Fraction
 
 sys.dont_write_bytecode = True
 sys.path.insert(0, "tools")
 import exact
-import lister_cases
-import split_cases as splits
-
-MINUS_INF, PLUS_INF = exact.MINUS_INF, exact.INF
-# few different differences of levels occur here, and each takes milliseconds
-splits.reduced_range_exp = functools.lru_cache(None)(splits.reduced_range_exp)
-
-
-def pattern(v):
-    v = Fraction(v)
-    return exact.nearest(abs(v)) | (v < 0) << 31
+import stored_table
+from exact import INF, MINUS_INF, pattern
 
 
 def hexes(patterns):
@@ -73,7 +63,7 @@ def normalized(scales, biases):
 
 def other_kernels():
     biases = [Fraction(1, 4), Fraction(1, 2), Fraction(-1)]
-    weights = hexes(map(pattern, splits.weights([pattern(x) for x in SOURCE])))
+    weights = hexes(map(pattern, exact.weights([pattern(x) for x in SOURCE])))
     yield line("softmax", 0, 0, weights)
     yield line("softmax_in_place", 0, 0, weights)
     yield line("normalize", 0, 0, normalized([1, 2, 4], biases))
@@ -82,8 +72,8 @@ def other_kernels():
 
 
 def ours():
-    gains = splits.gains([pattern(x) for x in SOURCE])
-    block = lister_cases.stored(3, [gains])[0]
+    gains = exact.gains([pattern(x) for x in SOURCE])
+    block = stored_table.stored(3, [gains])[0]
     yield line("split", 0, 0, gains)
     yield line("meter_feed", 0, 0, [3, *hexes(map(pattern, [sum(x * x for x in SOURCE), min(SOURCE), max(SOURCE)]))])
     yield line("table_write", 0, 0, [f"{b:02x}" for b in block[:14] + block[508:]])
@@ -93,8 +83,8 @@ def ours():
 
 # document 01, "Empty input", and the orders of refusals; 77 and the new meter are what the numbers hold before the call
 EMPTY = {
-    "min_max": (0, hexes([PLUS_INF, MINUS_INF])), "max_num": (0, hexes([MINUS_INF])), "min_num": (0, hexes([PLUS_INF])),
-    "split": (7, []), "meter_feed": (0, [0, *hexes([0, PLUS_INF, MINUS_INF])]),
+    "min_max": (0, hexes([INF, MINUS_INF])), "max_num": (0, hexes([MINUS_INF])), "min_num": (0, hexes([INF])),
+    "split": (7, []), "meter_feed": (0, [0, *hexes([0, INF, MINUS_INF])]),
     "table_write": (1, []), "table_read": (9, [77] * 2), "table_read_block": (9, [77] * 4),
 }
 EMPTY.update((name, (0, hexes([0]))) for name in ("sum", "sum_square", "sum_abs", "sum_square_sub", "sum_exp_sub"))
@@ -138,16 +128,16 @@ def refusals():
 def split_table():
     rows = []
     for r in range(64):
-        rows.append(splits.gains([0, pattern(Fraction(-r, 8)), pattern(Fraction(-r, 4)), MINUS_INF if r % 2 else pattern(Fraction(-3, 2))]))
+        rows.append(exact.gains([0, pattern(Fraction(-r, 8)), pattern(Fraction(-r, 4)), MINUS_INF if r % 2 else pattern(Fraction(-3, 2))]))
         if r < 4:
             yield f"row {r}: {' '.join(map(str, rows[r]))}, sum {sum(rows[r])}"
     yield f"rows that add up to 32768: {sum(sum(row) == 32768 for row in rows)} of 64"
-    data = bytearray(b"".join(lister_cases.stored(4, rows)))
+    data = bytearray(b"".join(stored_table.stored(4, rows)))
     yield f"written: 0 0, {len(data)} bytes, the last four {data[-4:].hex(' ')}"
     yield "read: 0 0, bands 4 rows 64, gains as written"
     yield f"block 1: 0 0, form 1 bands 4 rows 64, holds {64 - 250 // 4}"
     data[600] ^= 1
-    yield "read with byte 600 changed: " + lister_cases.listed(bytes(data)).strip().removeprefix("refused ") + ", gains kept"
+    yield "read with byte 600 changed: " + stored_table.listed(bytes(data)).strip().removeprefix("refused ") + ", gains kept"
 
 
 # ---- null_test.c
@@ -181,8 +171,8 @@ def null_test():
     for _ in range(BINS):
         levels = [pattern(Fraction(-(next(draw) >> 22), 64)) for _ in range(BANDS)]
         dry = [(next(draw) >> 8) - 2**23 for _ in range(SAMPLES)]
-        split.append((splits.gains(levels), dry))
-        alone.append(([(32768 * w + Fraction(1, 2)).__floor__() for w in splits.weights(levels)], dry))
+        split.append((exact.gains(levels), dry))
+        alone.append(([(32768 * w + Fraction(1, 2)).__floor__() for w in exact.weights(levels)], dry))
     yield f"{BINS} bins, {BANDS} bands, {BINS * SAMPLES} samples of 24 bits"
     yield from tallied("split", split)
     yield from tallied("each gain rounded by itself", alone)
@@ -191,7 +181,7 @@ def null_test():
 # ---- ftz.c, callback.cpp
 
 def small_weights():
-    return splits.weights([0, pattern(Fraction(-175, 2))])
+    return exact.weights([0, pattern(Fraction(-175, 2))])
 
 
 def flushed(v):
@@ -211,7 +201,7 @@ def ftz():
 
 
 def callback():
-    square = exact.rounded(exact.f32("1e-22") ** 2)
+    square = exact.rounded(exact.near("1e-22") ** 2)
     total = square
     for x in Fraction(1, 2), Fraction(-1), Fraction(1, 4):
         total = exact.rounded(total + x * x)

@@ -1,11 +1,9 @@
 #!/usr/bin/env python3
-"""Writes crates/meter_cases/stdin and stdout: feedings, and the meter that document 01 gives after each.
+"""Writes crates/meter_cases/stdin and stdout: feedings, and the meter that document 01 gives after each. Run it at the top of the repository."""
+from case_files import words, write_lines
+from exact import INF, MASK, MINUS_INF, NAN, ONE, is_finite, is_nan, plus, times
 
-A product or a sum is an exact fraction, rounded once (exact.py). Run it at the top of the repository.
-"""
-from exact import INF, MASK, MINUS_INF, NAN, key, nearest, value
-
-ONE, MINUS_ZERO, MINUS_ONE = 0x3F800000, 0x80000000, 0xBF800000
+MINUS_ZERO, MINUS_ONE = 0x80000000, 0xBF800000
 NEW = (0, 0, INF, MINUS_INF)
 FULL = 4294967295
 STORED = 12
@@ -14,8 +12,9 @@ SAMPLES = [
 ]
 
 
-def is_nan(n):
-    return n & MASK > INF
+def key(n):
+    """Orders patterns as numbers; both zeros are equal."""
+    return -(n & MASK) if n >> 31 else n
 
 
 def feed(meter, samples):
@@ -26,11 +25,10 @@ def feed(meter, samples):
     if is_nan(squares) or is_nan(least) or is_nan(largest) or key(squares) < 0:
         return 3, 0, meter
     for i, x in enumerate(samples):
-        if x & MASK >= INF:
+        if not is_finite(x):
             return 4, i, meter
     for x in samples:
-        square = nearest(value(x) * value(x))
-        squares = INF if INF in (square, squares) else nearest(value(square) + value(squares))
+        squares = plus(times(x, x), squares)
         least = x if key(x) < key(least) else least
         largest = x if key(x) > key(largest) else largest
     return 0, 0, (count + len(samples), squares, least, largest)
@@ -80,14 +78,13 @@ def main():
     for given, samples in cases():
         assert all(x == ONE for x in samples[STORED:])
         stored = (samples + [ONE] * STORED)[:STORED]
-        asked.append(" ".join(f"{w:08x}" for w in [int(given is None), *(given or (0,) * 4), len(samples), *stored]))
+        asked.append(words([int(given is None), *(given or (0,) * 4), len(samples), *stored]))
         number, place, held = feed(given or held, samples)
         # a NaN is written as 7fc00000, whatever its pattern was
-        told.append(f"{number} {place} {held[0]} " + " ".join(f"{NAN if is_nan(w) else w:08x}" for w in held[1:]))
+        told.append(f"{number} {place} {held[0]} " + words(NAN if is_nan(w) else w for w in held[1:]))
     told.append(f"{len(asked)} cases")
-    for name, lines in ("stdin", asked), ("stdout", told):
-        with open("crates/meter_cases/" + name, "w", encoding="utf-8") as out:
-            out.write("".join(line + "\n" for line in lines))
+    write_lines("crates/meter_cases/stdin", asked)
+    write_lines("crates/meter_cases/stdout", told)
 
 
 if __name__ == "__main__":

@@ -1,18 +1,16 @@
 #!/usr/bin/env python3
 """Writes crates/tabulate_cases/args, data and stdout, and crates/tabulate/args, stdin and stdout: levels, and the table or the refusal for each.
 
-Rows are split and stored by the functions of split_cases.py and lister_cases.py, which follow document 01; the rest follows
+Rows are split and stored by the functions of exact.py and stored_table.py, which follow document 01; the rest follows
 docs/DECISIONS.md, point 12. Run it at the top of the repository.
 """
-import os
 import random
 import re
 import struct
-from fractions import Fraction
 
-from exact import INF, MINUS_INF, NAN, nearest
-from lister_cases import stored
-from split_cases import split
+from case_files import write
+from exact import INF, MINUS_INF, NAN, drawn, split
+from stored_table import stored
 
 CASES, PROGRAM = "crates/tabulate_cases", "crates/tabulate"
 
@@ -43,22 +41,22 @@ def packed(levels):
     return struct.pack(f"<{len(levels)}I", *levels)
 
 
-def drawn(bands, rows, size):
+def drawn_rows(bands, rows, size):
     """Rows of levels, each up to `size` beside 0; the same 40 rows come again and again."""
     draw = random.Random(f"tabulate {bands} {rows}")
-    some = [[(draw.randrange(2) << 31) + nearest(Fraction(draw.randrange(1 << 24), 1 << 24) * size) for _ in range(bands)] for _ in range(40)]
+    some = [[drawn(draw, size) for _ in range(bands)] for _ in range(40)]
     return [level for r in range(rows) for level in some[r % 40]]
 
 
 # the example: equal bands, one far above the others, a band masked, a band masked with two equal ones, a mix of no pattern
 EXAMPLE = [0, 0, 0] + [0x41200000, 0, 0] + [0, MINUS_INF, 0x3F800000] + [MINUS_INF, 0xC0400000, 0xC0400000] + [0xBF8CCCCD, 0x40133333, 0xBE99999A]
-FULL = packed(drawn(16, 1024, 8))
+FULL = packed(drawn_rows(16, 1024, 8))
 FILES = {
     "three": packed(EXAMPLE),
     "empty": b"",
     "one": packed([0xC2C80000]),
     "cut": packed(EXAMPLE[:6]) + b"\0\0\x80\x3f\0",
-    "rows_1025": packed(drawn(1, 1025, 100)),
+    "rows_1025": packed(drawn_rows(1, 1025, 100)),
     "full": FULL,
     "full_and_one": FULL + b"\0",
     "full_and_row": FULL + FULL[:64],
@@ -89,13 +87,7 @@ RUNS = [("three", word) for word in WORDS] + [
 ]
 
 
-def write(path, data):
-    with open(path, "wb") as f:
-        f.write(data)
-
-
 def main():
-    os.makedirs(f"{CASES}/data", exist_ok=True)
     for name, data in FILES.items():
         write(f"{CASES}/data/{name}", data)
     write(f"{CASES}/args", b"".join(name.encode() + b"\n" + word + b"\n" for name, word in RUNS))

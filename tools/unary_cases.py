@@ -1,21 +1,17 @@
 #!/usr/bin/env python3
 """Writes crates/unary_cases/stdin and stdout: calls of the operators, and what document 01 gives for them.
 
-Refusals follow its numbered list and its domains. The values are the steps of exp.rs, tanh.rs and sin_cos.rs by its readings, worked
-out with exact fractions (exact.py). Run it at the top of the repository.
+Refusals follow its numbered list and its domains; the values are the steps of exp.rs, tanh.rs and sin_cos.rs by its readings. Run it
+at the top of the repository.
 """
 from fractions import Fraction
 
-from exact import INF, MASK, MINUS_INF, NAN, f32, nearest, rounded, value, whole
-from split_cases import exp_parts, mul_add, reduced_range_exp
+from case_files import words, write_lines
+from exact import INF, MASK, MINUS_INF, NAN, ONE, SIGN, exp_parts, is_finite, mul_add, near, pattern, reduced_range_exp, rounded, value, whole
 
 ROOM, LIMIT, SEVEN = 16385, 16384, 0x40E00000
-ZERO, MINUS_ZERO, ONE, MINUS_ONE, HALF, LEAST, MINUS_MOST = 0, 0x80000000, 0x3F800000, 0xBF800000, 0x3F000000, 1, 0xFF7FFFFF
+ZERO, MINUS_ZERO, MINUS_ONE, HALF, LEAST, MINUS_MOST = 0, 0x80000000, 0xBF800000, 0x3F000000, 1, 0xFF7FFFFF
 OPERATORS = "exp reduced_range_exp sigmoid silu swish elu tanh erf gelu approx_gelu sin cos".split()
-
-
-def pattern(v):
-    return nearest(-v) | 0x80000000 if v < 0 else nearest(v)
 
 
 # exp.rs
@@ -34,27 +30,27 @@ def exp(n):
 # tanh.rs, in two of its arms: |x| from 9.02 on gives 1, to 0.0004 |x|; the sign is flipped where x is at most zero
 def tanh(n):
     size = value(n & MASK)
-    assert size >= f32("9.02") or size <= f32("0.0004")
-    return (ONE if size >= f32("9.02") else n & MASK) ^ (0x80000000 if value(n) <= 0 else 0)
+    assert size >= near("9.02") or size <= near("0.0004")
+    return (ONE if size >= near("9.02") else n & MASK) ^ (SIGN if value(n) <= 0 else 0)
 
 
 # sin_cos.rs
-PI, HALF_PI = f32("3.1415927"), f32("1.5707964")
+PI, HALF_PI = near("3.1415927"), near("1.5707964")
 
 
 def sin_cos(n, is_cos):
     x = value(n)
-    k = whole(rounded(x * f32("0.15915494")))
-    r = rounded(x - rounded(k * f32("6.28125")))
-    r = rounded(r - rounded(k * f32("1.9353072e-3")))
+    k = whole(rounded(x * near("0.15915494")))
+    r = rounded(x - rounded(k * near("6.28125")))
+    r = rounded(r - rounded(k * near("1.9353072e-3")))
     if is_cos:
         r = rounded(HALF_PI - r)
     r = min(r, rounded(PI - r))
     r = max(r, rounded(-PI - r))
     r = min(r, rounded(PI - r))
     s = rounded(r * r)
-    p = rounded(mul_add(s, mul_add(s, f32("3.2340581529e-03"), f32("-1.3314664364e-01")), Fraction(1)) * r)
-    q = mul_add(s, mul_add(s, f32("4.8770775902e-04"), f32("3.3519912511e-02")), Fraction(1))
+    p = rounded(mul_add(s, mul_add(s, near("3.2340581529e-03"), near("-1.3314664364e-01")), Fraction(1)) * r)
+    q = mul_add(s, mul_add(s, near("4.8770775902e-04"), near("3.3519912511e-02")), Fraction(1))
     return pattern(rounded(p / q))
 
 
@@ -62,10 +58,6 @@ VALUES = {
     "exp": exp, "reduced_range_exp": lambda n: pattern(reduced_range_exp(value(n))), "tanh": tanh,
     "sin": lambda n: sin_cos(n, False), "cos": lambda n: sin_cos(n, True),
 }
-
-
-def is_finite(n):
-    return n & MASK < INF
 
 
 def in_domain(op, n):
@@ -90,7 +82,7 @@ def apply(op, alpha, src, lent):
     return 0, 0, [known[n] for n in src]
 
 
-def cases():
+def values_and_ends():
     """The operator, alpha, the elements of src and of dst that are lent, src's first three."""
     # document 01's sums by hand
     yield "reduced_range_exp", 0, 3, 3, (ZERO, MINUS_ZERO, MINUS_ONE)
@@ -110,6 +102,10 @@ def cases():
     for op in "sin", "cos":
         yield op, 0, 3, 3, (0x473B7FFF, 0xC73B7FFF, ZERO)
         yield op, 0, 3, 3, (ZERO, 0xC73B8000, 0x473B8000)
+
+
+def refusals():
+    """What is refused, and what only looks so."""
     # what is not finite, in each operator
     for op in OPERATORS:
         yield op, 0, 3, 3, (MINUS_ONE, NAN, INF)
@@ -148,13 +144,12 @@ def line(op, alpha, n, lent, first):
 
 def main():
     asked, told = [], []
-    for op, alpha, n, lent, first in cases():
-        asked.append(" ".join(f"{w:08x}" for w in [OPERATORS.index(op), alpha, n, lent, *first]))
+    for op, alpha, n, lent, first in [*values_and_ends(), *refusals()]:
+        asked.append(words([OPERATORS.index(op), alpha, n, lent, *first]))
         told.append(line(op, alpha, n, lent, first))
     told.append(f"{len(asked)} cases")
-    for name, lines in ("stdin", asked), ("stdout", told):
-        with open("crates/unary_cases/" + name, "w", encoding="utf-8") as out:
-            out.write("".join(line + "\n" for line in lines))
+    write_lines("crates/unary_cases/stdin", asked)
+    write_lines("crates/unary_cases/stdout", told)
 
 
 if __name__ == "__main__":
