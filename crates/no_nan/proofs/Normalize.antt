@@ -9,6 +9,7 @@ use mathlib.Core.List.{List}
 use lib.Dec.{T, eqb}
 use lib.ListN.{length}
 use lib.Ieee.{Float, nan}
+use Rattle.floats.specs.Each.{Each}
 use Rattle.lists.proofs.First.{first-clear}
 use Rattle.lists.proofs.Tab.{tab-at, tab-length}
 use Rattle.answer.specs.Answer.{judged, whenDone}
@@ -18,10 +19,11 @@ use Rattle.answer.proofs.Chain.{opened}
 use Rattle.normalize.specs.declared.Settings.{Settings}
 use Rattle.normalize.specs.Normalize.{resultAt, results, resultNumber, firstNanResult, tests, inPlaceAnswer, normalizeAnswer}
 use Rattle.normalize.proofs.Passing.{passing}
-use Rattle.no_nan.specs.Kernels.{Numbers, InPlaceNumbers, NormalizeNumbers}
+use Rattle.no_nan.specs.NoNan.{Number}
+use Rattle.no_nan.specs.Kernels.{InPlaceNumbers, NormalizeNumbers}
 
 module _ (st : Settings) (hs : Bool) (es : List Float) (hb : Bool) (eb s : List Float) where
-  numbers : Done ≡ judged (tests st hs es hb eb s) → Numbers (results st hs es hb eb s)
+  numbers : Done ≡ judged (tests st hs es hb eb s) → Each Number (results st hs es hb eb s)
   unfolding firstNanResult
   numbers e i h =
       let k : i < length s = rw tab-length at h in
@@ -30,10 +32,10 @@ module _ (st : Settings) (hs : Bool) (es : List Float) (hb : Bool) (eb s : List 
 
   pub in-place-numbers : InPlaceNumbers st hs es hb eb s
   unfolding inPlaceAnswer
-  in-place-numbers e = subst (λ a. Numbers (whenDone a (results st hs es hb eb s) s)) e (numbers e)
+  in-place-numbers e = subst (λ a. Each Number (whenDone a (results st hs es hb eb s) s)) e (numbers e)
 
   pub normalize-numbers : (d : List Float) → NormalizeNumbers st hs es hb eb s d
   unfolding normalizeAnswer
   normalize-numbers d e =
-      subst (λ a. Numbers (whenDone a (results st hs es hb eb s) d)) e
+      subst (λ a. Each Number (whenDone a (results st hs es hb eb s) d)) e
       (numbers (opened (not (eqb (length s) (length d))) Length (tests st hs es hb eb s) e .1))

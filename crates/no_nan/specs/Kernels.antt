@@ -1,11 +1,10 @@
 -- What is claimed of the sums, the meter and normalize. Definitions only.
-use Prim.Native.Nat.{ℕ, _<_}
 use mathlib.Core.Path.{_≡_}
 use mathlib.Core.Bool.{Bool}
 use mathlib.Core.List.{List}
-use lib.Ieee.{Float, nan}
-use lib.ListN.{length, getD}
+use lib.Ieee.{Float}
 use Rattle.floats.specs.Values.{zeroF}
+use Rattle.floats.specs.Each.{Each}
 use Rattle.answer.specs.declared.Answer.the-variants.{Done}
 use Rattle.sum.specs.Sum.{sumFrom, addUpAnswer}
 use Rattle.sum.specs.declared.SumOp.{SumOp}
@@ -24,12 +23,9 @@ SumNumber op s = Done ≡ addUpAnswer op s → Number (sumFrom op zeroF s)
 abbrev pub FedNumbers : Meter → List Float → Type 0
 FedNumbers m s = (n : Meter) → feedOf m s ≡ Next n → Number (n .«sum_squares») × Number (n .least) × Number (n .largest)
 
-abbrev pub Numbers : List Float → Type 0
-Numbers l = (i : ℕ) → i < length l → Number (getD l i nan)
-
 -- what normalize leaves where it is done, in place and from one slice into another
 abbrev pub InPlaceNumbers : Settings → Bool → List Float → Bool → List Float → List Float → Type 0
-InPlaceNumbers st hs es hb eb s = Done ≡ inPlaceAnswer st hs es hb eb s → Numbers (inPlaceOut st hs es hb eb s)
+InPlaceNumbers st hs es hb eb s = Done ≡ inPlaceAnswer st hs es hb eb s → Each Number (inPlaceOut st hs es hb eb s)
 
 abbrev pub NormalizeNumbers : Settings → Bool → List Float → Bool → List Float → List Float → List Float → Type 0
-NormalizeNumbers st hs es hb eb s d = Done ≡ normalizeAnswer st hs es hb eb s d → Numbers (normalizeOut st hs es hb eb s d)
+NormalizeNumbers st hs es hb eb s d = Done ≡ normalizeAnswer st hs es hb eb s d → Each Number (normalizeOut st hs es hb eb s d)

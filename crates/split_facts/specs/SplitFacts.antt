@@ -40,26 +40,21 @@ pub record Demand3 (levels : List Float) (answer : Answer) (gains : List ℕ) : 
       → (let w = frac (getD (weightsOf levels) i nan) in (w .under ≡ 0) × Near (at (levelSteps levels) i) (w .over * stepCount) (w .by))
   pub some : 0 < total (levelSteps levels)
 
--- `answer`, and `left` what the gains are afterwards, as `split`'s promise has them
-abbrev pub EveryDemand3 : Type 0
-EveryDemand3 =
+-- P holds of such levels, the answer, and what the lent gains are afterwards, as `split`'s promise has them
+abbrev pub EachSplit : (List Float → Answer → List ℕ → Type 0) → Type 0
+EachSplit P =
     (levels : List Float) (gains : List ℕ) (answer : Answer) (left : List ℕ)
     → Levels levels
     → length gains ≡ length levels
     → Outcome (splitTold levels gains) (splitOut levels gains) answer left
-    → Demand3 levels answer left
+    → P levels answer left
+
+abbrev pub EveryDemand3 : Type 0
+EveryDemand3 = EachSplit Demand3
 
 -- a masked band's gain is 0
 abbrev pub MaskedBand : Type 0
-MaskedBand =
-    (levels : List Float) (gains : List ℕ) (answer : Answer) (left : List ℕ)
-    → Levels levels
-    → length gains ≡ length levels
-    → Outcome (splitTold levels gains) (splitOut levels gains) answer left
-    → (i : ℕ)
-    → i < length levels
-    → getD levels i nan ≡ inf true
-    → at left i ≡ 0
+MaskedBand = EachSplit (λ levels answer left. (i : ℕ) → i < length levels → getD levels i nan ≡ inf true → at left i ≡ 0)
 
 -- the call of the levels is done and leaves l, whatever gains of their number are lent
 abbrev pub Splits : List Float → List ℕ → Type 0
