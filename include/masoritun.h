@@ -81,7 +81,7 @@ uint64_t mst_silu(const float *src, size_t n, float *dst, size_t m);
 uint64_t mst_swish(float alpha, const float *src, size_t n, float *dst, size_t m);
 /* x at or above zero, else alpha (Exp(x) - 1). Refuses 1, 2, 3 (alpha not finite), 4. */
 uint64_t mst_elu(float alpha, const float *src, size_t n, float *dst, size_t m);
-/* Hyperbolic tangent; the sign is flipped where x is at most zero, so +0 gives -0. */
+/* Hyperbolic tangent, with the sign of x: +0 gives +0, and -0 gives -0. */
 uint64_t mst_tanh(const float *src, size_t n, float *dst, size_t m);
 /* The error function, by a polynomial. */
 uint64_t mst_erf(const float *src, size_t n, float *dst, size_t m);

@@ -1,5 +1,5 @@
 #!/usr/bin/env python3
-"""Writes crates/unary_cases/stdin and stdout: calls of the operators, and what document 01 gives for them.
+"""Writes crates/unary_cases/stdin and stdout: calls of the operators, and what documents 01 and 02 give for them.
 
 Refusals follow its numbered list and its domains; the values are the steps of exp.rs, tanh.rs and sin_cos.rs by its readings. Run it
 at the top of the repository.
@@ -27,11 +27,11 @@ def exp(n):
     return pattern(rounded(p * value(s)) * value(t))
 
 
-# tanh.rs, in two of its arms: |x| from 9.02 on gives 1, to 0.0004 |x|; the sign is flipped where x is at most zero
+# tanh.rs, in two of its arms: |x| from 9.02 on gives 1, to 0.0004 |x|; the sign is that of x, of a zero too (document 02, L4)
 def tanh(n):
     size = value(n & MASK)
     assert size >= near("9.02") or size <= near("0.0004")
-    return (ONE if size >= near("9.02") else n & MASK) ^ (SIGN if value(n) <= 0 else 0)
+    return (ONE if size >= near("9.02") else n & MASK) | n & SIGN
 
 
 # sin_cos.rs

@@ -68,8 +68,8 @@ IN float tanh_of(float x) {
     const float e = exp_once(a * 2.0f), m = (e - 1.0f) / (e + 1.0f);
     float y = a >= 9.02f ? 1.0f : m;
     y = a <= 0.55f ? s : y;
-    y = a <= 0.0004f ? a : y;
-    return x <= 0.0f ? neg(y) : y;
+    y = x <= 0.0f ? neg(y) : y;
+    return a <= 0.0004f ? x : y;
 }
 IN float erf_of(float x) {
     const float a = size(x), t = 1.0f / (a * 0.3275911f + 1.0f);

@@ -55,8 +55,8 @@ operators! {
         "`Elu`: x where it is at least zero, else alpha (e^x - 1)."
         "2.0, &[3.0, -104.0]" => "[3.0, -2.0]" "3 stays; `Exp` of -104 is +0, so the second is 2 (0 - 1).";
     tanh() mst_tanh "finite"
-        "`Tanh`: the hyperbolic tangent. The sign is flipped where x is at most zero, so +0 gives -0."
-        "&[0.0, 10.0]" => "[-0.0, 1.0]" "Document 01's worked case for +0; from 9.02 on it is 1.";
+        "`Tanh`: the hyperbolic tangent, with the sign of x: +0 gives +0, and -0 gives -0."
+        "&[-0.0, 10.0]" => "[-0.0, 1.0]" "A zero keeps its sign; from 9.02 on it is 1.";
     erf() mst_erf "finite"
         "`Erf`: the error function."
         "&[10.0, -10.0]" => "[1.0, -1.0]" "e^-100 is below the cutoff, so 1 less nothing is left.";

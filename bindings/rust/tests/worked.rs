@@ -1,4 +1,4 @@
-//! Document 01's sums by hand, and what it says of empty input.
+//! The sums by hand of documents 01 and 02, and what 01 says of empty input.
 
 use masoritun::*;
 
@@ -24,8 +24,13 @@ fn splits() {
 #[test]
 fn operators_at_their_edges() {
     type Operator = fn(&[f32], &mut [f32]) -> Result<(), Refusal>;
-    let cases: [(Operator, f32, f32); 4] =
-        [(reduced_range_exp, 0.0, 1.0), (exp, 104.0, f32::INFINITY), (exp, -104.0, 0.0), (tanh, 0.0, -0.0)];
+    let cases: [(Operator, f32, f32); 5] = [
+        (reduced_range_exp, 0.0, 1.0),
+        (exp, 104.0, f32::INFINITY),
+        (exp, -104.0, 0.0),
+        (tanh, 0.0, 0.0),
+        (tanh, -0.0, -0.0),
+    ];
     for (operator, x, want) in cases {
         let mut dst = [7.0];
         assert_eq!(operator(&[x], &mut dst), Ok(()));

@@ -9,7 +9,8 @@ use lib.Dec.{T, eqb·suc-zero, lit≤}
 use lib.Ieee.{Float, nan, inf, fin, binary32, up, down, add, div, le, ofBits}
 use lib.Ieee.Fits.{down-pos}
 use lib.Ieee.Scale.{finite}
-use Rattle.floats.proofs.Sign.{hasSign, round-has, finite-number}
+use Rattle.floats.specs.Floats.{hasSign}
+use Rattle.floats.proofs.Sign.{round-has, finite-number}
 use Rattle.floats.proofs.Signed.{le→⊑}
 use Rattle.floats.proofs.NotNegative.{plus-le}
 use Rattle.floats.proofs.Order.{le-trans-f, le-refl-f}

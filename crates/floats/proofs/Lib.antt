@@ -10,6 +10,7 @@ pub mod Magnitude
 pub mod NoNan
 pub mod Values
 pub mod NotNegative
+pub mod Zeros
 pub mod Between
 pub mod FromOne
 pub mod Largest

@@ -6,8 +6,8 @@ use native.Mathlib.Omega.{arith}
 use lib.Dec.{T}
 use lib.Ieee.{Float, nan, inf, fin, Format, binary32, binary64, round, add, mul, le, isNan, ofBits}
 use lib.Ieee.Scale.{finite}
-use Rattle.floats.specs.Floats.{mulAdd, absOf}
-use Rattle.floats.proofs.Sign.{hasSign, round-has}
+use Rattle.floats.specs.Floats.{mulAdd, absOf, hasSign}
+use Rattle.floats.proofs.Sign.{round-has}
 use Rattle.floats.proofs.Signed.{⊑→le}
 use Rattle.floats.proofs.Order.{le-trans-f}
 use Rattle.floats.proofs.Monotone.{add-mono, mul-mono-r, mul-mono-l}

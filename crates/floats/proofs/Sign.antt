@@ -8,12 +8,7 @@ use lib.Dec.{T, ltb}
 use lib.Pow.{pow-pos}
 use lib.Ieee.{Float, nan, inf, fin, Format, binary32, binary64, prec, emax, low, up, down, odd, units, round, neg, mul, lt, isNan}
 use lib.Ieee.Scale.{finite, round-same}
-
--- x is no NaN, and its sign is s
-abbrev pub hasSign : Bool → Float → Bool
-hasSign s nan = false
-hasSign s (inf t) = Bool·beq s t
-hasSign s (fin t m e) = Bool·beq s t
+use Rattle.floats.specs.Floats.{hasSign}
 
 beq-refl : (s : Bool) → T (Bool·beq s s)
 beq-refl true = tt

@@ -13,7 +13,8 @@ use lib.Ieee.Order.{round-mono}
 use lib.Ieee.Scale.{finite}
 use Rattle.floats.specs.Fraction.{Frac, frac, _⊑_, turn}
 use Rattle.floats.proofs.Numbers.{spread, zero-factor}
-use Rattle.floats.proofs.Sign.{hasSign, round-has, round-neg, round-zero, has-number, neg-finite, neg-number}
+use Rattle.floats.specs.Floats.{hasSign}
+use Rattle.floats.proofs.Sign.{round-has, round-neg, round-zero, has-number, neg-finite, neg-number}
 
 -- ---- fractions
 pub by-pos : (x : Float) → 0 < frac x .by

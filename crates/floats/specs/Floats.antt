@@ -1,5 +1,5 @@
 -- What the kit's IEEE 754 (lib.Ieee) lacks of Rust's f32 functions. `finite` is the kit's. Definitions only.
-use mathlib.Core.Bool.{Bool, false}
+use mathlib.Core.Bool.{Bool, false, Bool·beq}
 use mathlib.Core.List.{List}
 use Prim.Native.Nat.{ℕ, _*_}
 use lib.Ieee.{Float, nan, inf, fin, Format, binary32, up, down, round, add, sub, mul}
@@ -21,6 +21,12 @@ abbrev pub absOf : Float → Float
 absOf nan = nan
 absOf (inf s) = inf false
 absOf (fin s m e) = fin false m e
+
+-- x is no NaN, and its sign is s, true for minus; a zero has one too
+abbrev pub hasSign : Bool → Float → Bool
+hasSign s nan = false
+hasSign s (inf t) = Bool·beq s t
+hasSign s (fin t m e) = Bool·beq s t
 
 -- The whole number nearest to x, ties to the even one, with x's sign: a zero keeps it. (`closest` is that number for x's size,
 -- m * up e / down e. The format holds it, so `round` only writes it down: `round-even-value` of proofs/Whole.antt.)

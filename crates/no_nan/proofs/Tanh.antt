@@ -9,7 +9,7 @@ use lib.Ieee.Scale.{finite}
 use Rattle.floats.specs.Values.{zeroF, oneF, minusOneF, twoF, thirtyTwoF}
 use Rattle.consts.specs.Consts.{tanhCutoff, tanhTiny, tanhSmall, tanhP1, tanhP3, tanhP5, tanhP7, tanhP9}
 use Rattle.exp.specs.Exp.{expOf}
-use Rattle.floats.specs.Floats.{absOf}
+use Rattle.floats.specs.Floats.{absOf, hasSign}
 use Rattle.floats.proofs.Monotone.{add-mono}
 use Rattle.floats.proofs.NotNegative.{abs-le}
 use Rattle.floats.proofs.Order.{le-trans-f, le-refl-f, le-numbers, not-le}
@@ -114,4 +114,4 @@ unfolding tanhOf neg ofBits
 tanh-between x n =
     let y = sizeOf x (absOf x) in
     let b = size-between x n in
-    cond-between minusOneF oneF (le x zeroF) (neg y) y (between-neg minusOneF oneF y b) b
+    cond-between minusOneF oneF (hasSign true x) (neg y) y (between-neg minusOneF oneF y b) b

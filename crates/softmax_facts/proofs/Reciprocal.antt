@@ -9,7 +9,8 @@ use lib.Ieee.{Float, nan, inf, fin, binary32, up, down, round, mul, div, le, ofB
 use lib.Ieee.Fits.{down-pos}
 use lib.Ieee.Scale.{finite}
 use Rattle.floats.specs.Values.{zeroF, oneF}
-use Rattle.floats.proofs.Sign.{hasSign, round-zero}
+use Rattle.floats.specs.Floats.{hasSign}
+use Rattle.floats.proofs.Sign.{round-zero}
 use Rattle.floats.proofs.Between.{between-finite}
 use Rattle.floats.proofs.FromOne.{one-over-sign, one-over}
 

@@ -1,1 +1,3 @@
 pub mod Doubled
+pub mod Zero
+pub mod Before

@@ -1,5 +1,8 @@
 // tanh.rs of rten-vecmath, one element at a time. For the crates above.
 ghost use mathlib.Core.Path.{_≡_};
+ghost use mathlib.Core.Bool.{false};
+ghost use lib.Ieee.{le};
+ghost use Rattle.consts.specs.Consts.{tanhTiny};
 ghost use Rattle.tanh.specs.Tanh.{smallOf, mediumOf, sizeOf, tanhOf};
 use consts::TANH_CUTOFF;
 use consts::TANH_P1;
@@ -28,15 +31,12 @@ fn medium(e: f32) -> f32
     (e - 1.0) / (e + 1.0)
 }
 
-// Both forms are worked out before the choice, so that a loop over it has no branch.
+// The size of the result past TANH_TINY. Both forms are worked out before the choice, so that a loop over it has no branch.
 fn chosen(x: f32, size: f32) -> f32
-    ensures { λ r. ⌜ r ≡ sizeOf x size ⌝ }
+    ensures { λ r. ⌜ (le size tanhTiny ≡ false → r ≡ sizeOf x size) ⌝ }
 {
     let low = small(x * x, size);
     let high = medium(exp_within(size * 2.0));
-    if size <= TANH_TINY {
-        return size;
-    }
     if size <= TANH_SMALL {
         return low;
     }
@@ -46,9 +46,14 @@ fn chosen(x: f32, size: f32) -> f32
     high
 }
 
+// Up to TANH_TINY the result is x itself, so a zero keeps its sign; past it the order against zero tells the sign.
 pub fn tanh(x: f32) -> f32
     ensures { λ r. ⌜ r ≡ tanhOf x ⌝ }
 {
-    let y = chosen(x, abs_by_order(x));
+    let size = abs_by_order(x);
+    let y = chosen(x, size);
+    if size <= TANH_TINY {
+        return x;
+    }
     if x <= 0.0 { -y } else { y }
 }

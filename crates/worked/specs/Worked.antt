@@ -41,7 +41,7 @@ abbrev pub twoLines : List ℕ
 twoLines =
     98 ∷ 97 ∷ 110 ∷ 100 ∷ 115 ∷ 32 ∷ 49 ∷ 32 ∷ 114 ∷ 111 ∷ 119 ∷ 115 ∷ 32 ∷ 49 ∷ 10 ∷ 48 ∷ 32 ∷ 51 ∷ 50 ∷ 55 ∷ 54 ∷ 56 ∷ 10 ∷ []
 
--- in the order of RULES, Worked; -100 is 0xc2c80000, 104 is 0x42d00000, -104 is 0xc2d00000, -0 is 0x80000000;
+-- in the order of RULES, Worked; -100 is 0xc2c80000, 104 is 0x42d00000, -104 is 0xc2d00000;
 -- 1.5, 2.5, -1, 300 and -0.5 are 0x3fc00000, 0x40200000, 0xbf800000, 0x43960000 and 0xbf000000
 abbrev pub cases : List Case
 cases =
@@ -54,7 +54,7 @@ cases =
     ∷ operator ReducedRangeExp (zeroF ∷ []) (oneF ∷ [])
     ∷ operator Exp (f32 0x42d0_0000 ∷ []) (inf false ∷ [])
     ∷ operator Exp (f32 0xc2d0_0000 ∷ []) (zeroF ∷ [])
-    ∷ operator Tanh (zeroF ∷ []) (f32 0x8000_0000 ∷ [])
+    ∷ operator Tanh (zeroF ∷ []) (zeroF ∷ [])
     ∷ quantize oneF 0 (halfF ∷ f32 0x3fc0_0000 ∷ f32 0x4020_0000 ∷ f32 0xbf80_0000 ∷ f32 0x4396_0000 ∷ []) (0 ∷ 2 ∷ 2 ∷ 0 ∷ 255 ∷ [])
     ∷ quantize oneF 128 (f32 0xbf00_0000 ∷ []) (128 ∷ [])
     ∷ stored 1 1 (32768 ∷ []) oneBand

@@ -15,25 +15,19 @@ medium-requires c κs = search needs
 
 returns : tie.Need-returns
 unfolding sizeOf
-returns c = simp (c .if1 .taken)
+returns c past = simp (past, c .if1 .taken) (cc)
 
 returns-2 : tie.Need-returns-2
 unfolding sizeOf
-returns-2 c = simp (c .before .if1 .left, c .if2 .taken) (cc)
+returns-2 c past = simp (past, c .before .if1 .left, c .if2 .taken)
 
 returns-3 : tie.Need-returns-3
 unfolding sizeOf
-returns-3 c = simp (c .before .before .if1 .left, c .before .if2 .left, c .if3 .taken)
-
-returns-4 : tie.Need-returns-4
-unfolding sizeOf
-returns-4 c =
-    let at = c .before .before .before .before in
-    let w = doubled-within (at .before .before .args .size) (c .before .if2 .left) (c .if3 .left) in
+returns-3 c past =
+    let at = c .before .before .before in
+    let w = doubled-within (at .before .before .args .size) (c .before .if1 .left) (c .if2 .left) in
     let e = at .exp-within .ensures (w .0) (w .1) in
-    simp (c .before .before .if1 .left, c .before .if2 .left, c .if3 .left) (cc e)
+    simp (past, c .before .if1 .left, c .if2 .left) (cc e)
 
 pub chosen-spec : {M : Type 1} → statement M
-chosen-spec =
-    tie.close
-    (tie.spec small-requires exp-within-requires medium-requires returns returns-2 returns-3 returns-4)
+chosen-spec = tie.close (tie.spec small-requires exp-within-requires medium-requires returns returns-2 returns-3)

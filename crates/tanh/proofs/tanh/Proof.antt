@@ -1,5 +1,10 @@
+-- Up to 0.0004 in size x is the result; past it x is no zero, so x at most zero is x with a minus sign.
+use mathlib.Core.Path.{_≡_, sym, subst}
+use mathlib.Core.Bool.{true, false}
+use lib.Ieee.{le}
 use borrow.Author.Needs.{needs}
-use Rattle.tanh.specs.Tanh.{tanhOf}
+use Rattle.consts.specs.Consts.{tanhTiny}
+use Rattle.tanh.proofs.Zero.{tiny-itself, no-zero, by-order}
 use Rattle.tanh.proofs.tanh.Statement.{statement}
 use Rattle.tanh.proofs.tanh.Tie as tie
 
@@ -10,12 +15,23 @@ chosen-requires : tie.Need-chosen-requires
 chosen-requires c κs = search needs
 
 returns : tie.Need-returns
-unfolding tanhOf
-returns c = simp (c .if1 .taken) (cc)
+returns c =
+    let at = c .before .before in
+    sym (tiny-itself (at .before .args .x) (subst (λ s. le s tanhTiny ≡ true) (at .abs-by-order .ensures) (c .if1 .taken)))
 
 returns-2 : tie.Need-returns-2
-unfolding tanhOf
-returns-2 c = simp (c .if1 .left) (cc)
+returns-2 c =
+    let at = c .before .before .before in
+    let past = subst (λ s. le s tanhTiny ≡ false) (at .abs-by-order .ensures) (c .before .if1 .left) in
+    let y = c .before .before .chosen .ensures (c .before .if1 .left) in
+    rw (by-order (at .before .args .x) (no-zero (at .before .args .x) past)) (simp (c .if2 .taken) (cc y))
+
+returns-3 : tie.Need-returns-3
+returns-3 c =
+    let at = c .before .before .before in
+    let past = subst (λ s. le s tanhTiny ≡ false) (at .abs-by-order .ensures) (c .before .if1 .left) in
+    let y = c .before .before .chosen .ensures (c .before .if1 .left) in
+    rw (by-order (at .before .args .x) (no-zero (at .before .args .x) past)) (simp (c .if2 .left) (cc y))
 
 pub tanh-spec : {M : Type 1} → statement M
-tanh-spec = tie.close (tie.spec abs-by-order-requires chosen-requires returns returns-2)
+tanh-spec = tie.close (tie.spec abs-by-order-requires chosen-requires returns returns-2 returns-3)

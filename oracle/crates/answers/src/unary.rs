@@ -1,8 +1,8 @@
-//! The twelve operators: number, alpha (+0 where there is none), x, y.
+//! The twelve operators: number, alpha (+0 where there is none), x, y. The text's y, but the rule's where a request has another.
 
 use crate::file::File;
 use crate::inputs::{Inputs, at_most_zero, below_48000, edge, finite, steps};
-use reference::unary::{Op, in_domain};
+use reference::unary::{Op, departs, in_domain};
 use std::collections::HashSet;
 use text::eval;
 
@@ -30,8 +30,9 @@ pub fn file() -> File {
         for (alpha, x) in cases {
             let op = op(alpha);
             assert!(in_domain(op, x));
-            let y = eval(op, x);
-            f.agree(&format!("{op:?}"), &[x], &[y], &[reference::unary::eval(op, x)]);
+            let rule = reference::unary::eval(op, x);
+            let y = if departs(op, x).is_some() { rule } else { eval(op, x) };
+            f.agree(&format!("{op:?}"), &[x], &[y], &[rule]);
             f.case(&[number as u32, alpha.to_bits(), x.to_bits(), y.to_bits()]);
         }
     }

@@ -1,4 +1,4 @@
-//! The twelve operators: every pattern, and random calls with faults.
+//! The twelve operators: every pattern, random calls with faults, and the requests that depart from the text by name.
 
 use crate::lent::Lent;
 use crate::plan::{Mode, plan, setting, spoil, stale};
@@ -6,7 +6,7 @@ use crate::tally::{Tally, hex};
 use cases::Rng;
 use reference::Answer;
 use reference::answer::{DONE, ELEMENT_LIMIT};
-use reference::unary::{Op, apply, in_domain};
+use reference::unary::{Op, apply, departs, eval, in_domain};
 
 unsafe extern "C" {
     fn mst_exp(src: *const f32, n: usize, dst: *mut f32, m: usize) -> u64;
@@ -50,9 +50,10 @@ const PLAIN: [Op; 10] =
     [Op::Exp, Op::ReducedRangeExp, Op::Sigmoid, Op::Silu, Op::Tanh, Op::Erf, Op::Gelu, Op::ApproxGelu, Op::Sin, Op::Cos];
 
 pub fn compare(mode: Mode, report: &mut dyn FnMut(Tally)) {
+    let operators = asked();
     report(random_calls(mode));
-    let with_alpha = ALPHAS.into_iter().flat_map(|a| [Op::Swish(a), Op::Elu(a)]);
-    for op in PLAIN.into_iter().chain(with_alpha) {
+    report(zeros_keep_sign());
+    for op in operators {
         let halves = std::thread::scope(|s| {
             let threads = [0, 1].map(|half| s.spawn(move || patterns(mode, op, half)));
             threads.map(|t| t.join().unwrap())
@@ -61,6 +62,20 @@ pub fn compare(mode: Mode, report: &mut dyn FnMut(Tally)) {
         halves.into_iter().for_each(|half| all.join(half));
         report(all);
     }
+}
+
+/// The operators that the program's arguments name after the mode, or all; with an alpha, at each of `ALPHAS`.
+fn asked() -> Vec<Op> {
+    let with_alpha = ALPHAS.into_iter().flat_map(|a| [Op::Swish(a), Op::Elu(a)]);
+    let mut all: Vec<Op> = PLAIN.into_iter().chain(with_alpha).collect();
+    let names: Vec<String> = std::env::args().skip(2).collect();
+    let is = |op: &Op, name: &str| format!("{op:?}").split('(').next() == Some(name);
+    if let Some(name) = names.iter().find(|name| !all.iter().any(|op| is(op, name))) {
+        eprintln!("compare: {name} is no operator");
+        std::process::exit(1);
+    }
+    all.retain(|op| names.is_empty() || names.iter().any(|name| is(op, name)));
+    all
 }
 
 /// Patterns go by blocks of this many.
@@ -91,7 +106,7 @@ fn at_edge(block: u32) -> bool {
     EDGES.iter().any(|x| size.abs_diff(x.to_bits() / BLOCK) <= 1)
 }
 
-/// Every second block of patterns from `half` on: in the domain against the text, outside it refused.
+/// Every second block of patterns from `half` on: in the domain against `wanted`, outside it refused.
 fn patterns(mode: Mode, op: Op, half: u32) -> Tally {
     let mut tally = Tally::new("");
     let mut src = Vec::with_capacity(ELEMENT_LIMIT);
@@ -117,10 +132,30 @@ fn patterns(mode: Mode, op: Op, half: u32) -> Tally {
     tally
 }
 
-fn many(tally: &mut Tally, op: Op, src: &[f32]) {
+/// L4: both zeros come out of `Tanh` as they went in, where the text gives -0 for either.
+fn zeros_keep_sign() -> Tally {
+    let mut tally = Tally::new("unary Tanh, both zeros by L4");
+    let zeros = [0.0, -0.0];
+    call(&mut tally, Op::Tanh, &zeros, &[7.0; 2]);
+    let mut text = [7.0; 2];
+    text::map(Op::Tanh, &zeros, &mut text);
+    tally.same("the text", &text, &[-0.0; 2], &|| format!("Tanh of {}", hex(&zeros)));
+    tally
+}
+
+/// What the text gives, but the rule's results where a request departs from it.
+fn wanted(op: Op, src: &[f32]) -> Vec<f32> {
     let mut want = vec![0.0; src.len()];
-    let mut got = vec![0.0; src.len()];
     text::map(op, src, &mut want);
+    for (&x, y) in src.iter().zip(&mut want).filter(|(x, _)| departs(op, **x).is_some()) {
+        *y = eval(op, x);
+    }
+    want
+}
+
+fn many(tally: &mut Tally, op: Op, src: &[f32]) {
+    let want = wanted(op, src);
+    let mut got = vec![0.0; src.len()];
     // SAFETY: two slices of their own.
     let answer = unsafe { ours(op, (src.as_ptr(), src.len()), (got.as_mut_ptr(), got.len())) };
     tally.answer(answer, DONE, &|| format!("{op:?} of {} patterns from {:08x}", src.len(), src[0].to_bits()));
@@ -128,7 +163,8 @@ fn many(tally: &mut Tally, op: Op, src: &[f32]) {
     let same = got.iter().zip(&want).fold(true, |s, (a, b)| s & (a.to_bits() == b.to_bits()));
     if !same {
         for ((x, a), b) in src.iter().zip(&got).zip(&want).filter(|((_, a), b)| a.to_bits() != b.to_bits()) {
-            tally.differs(|| format!("{op:?} of {:08x} is {:08x}, the text gives {:08x}", x.to_bits(), a.to_bits(), b.to_bits()));
+            let by = departs(op, *x).unwrap_or("the text");
+            tally.differs(|| format!("{op:?} of {:08x} is {:08x}, {by} gives {:08x}", x.to_bits(), a.to_bits(), b.to_bits()));
         }
     }
 }
@@ -199,8 +235,6 @@ fn call(tally: &mut Tally, op: Op, src: &[f32], dst: &[f32]) {
     tally.lent("dst", &got, &want, &about);
     tally.lent("src", &lent, src, &about);
     if answer == DONE {
-        let mut text = vec![0.0; src.len()];
-        text::map(op, src, &mut text);
-        tally.same("dst against the text", got.slice(), &text, &about);
+        tally.same("dst against the text", got.slice(), &wanted(op, src), &about);
     }
 }

@@ -48,6 +48,14 @@ pub fn eval(op: Op, x: f32) -> f32 {
     }
 }
 
+/// The request of document 02 by which the result here is another than the text's.
+pub fn departs(op: Op, x: f32) -> Option<&'static str> {
+    match op {
+        Op::Tanh if x.to_bits() == 0 => Some("L4"),
+        _ => None,
+    }
+}
+
 pub fn in_domain(op: Op, x: f32) -> bool {
     match op {
         Op::ReducedRangeExp => finite(x) && x <= 0.0,
@@ -130,6 +138,9 @@ const TANH_POLY: [f32; 5] = [
 ];
 
 fn tanh(x: f32) -> f32 {
+    if x == 0.0 {
+        return x;
+    }
     let y = tanh_of_size(abs(x));
     if x <= 0.0 { neg(y) } else { y }
 }

@@ -1,4 +1,4 @@
-//! Document 01, "Sums by hand".
+//! Document 01, "Sums by hand", as document 02 has changed them.
 
 use reference::answer::DONE;
 use reference::quantize::quantize;
@@ -38,7 +38,8 @@ fn operators() {
     assert_eq!(eval(Op::ReducedRangeExp, 0.0).to_bits(), 0x3f80_0000);
     assert_eq!(eval(Op::Exp, 104.0).to_bits(), 0x7f80_0000);
     assert_eq!(eval(Op::Exp, -104.0).to_bits(), 0);
-    assert_eq!(eval(Op::Tanh, 0.0).to_bits(), 0x8000_0000);
+    assert_eq!(eval(Op::Tanh, 0.0).to_bits(), 0);
+    assert_eq!(eval(Op::Tanh, -0.0).to_bits(), 0x8000_0000);
     assert_eq!(apply(Op::Sin, &[48000.0], &mut [0.0]).number, 4);
     for (n, number) in [(16_384, 0), (16_385, 2)] {
         assert_eq!(apply(Op::Exp, &vec![0.0; n], &mut vec![0.0; n]).number, number);
