@@ -1,8 +1,8 @@
 #!/usr/bin/env python3
 """Writes crates/unary_cases/stdin and stdout: calls of the operators, and what documents 01 and 02 give for them.
 
-Refusals follow its numbered list and its domains; the values are the steps of exp.rs, tanh.rs and sin_cos.rs by its readings. Run it
-at the top of the repository.
+Refusals follow document 01's numbered list and domains; the values are the steps of exp.rs, tanh.rs and sin_cos.rs by its readings.
+Run it at the top of the repository.
 """
 from fractions import Fraction
 

@@ -1,6 +1,6 @@
 -- The two zeros, which compare as equal: where an order can't tell the sign of x, and where it doesn't matter. Assumes nothing.
 use mathlib.Core.Path.{_≡_, refl, sym, _∙_, ap}
-use mathlib.Core.Bool.{Bool, true, false, _&&_, _||_, cond, true≢false, false≢true}
+use mathlib.Core.Bool.{Bool, true, false, _&&_, _||_, cond, false≢true}
 use Prim.Native.Nat.{ℕ, _*_}
 use native.Mathlib.Nat.{zero-mul, zero-add, sub-zero, one-mul, mul-one}
 use native.Mathlib.Omega.{arith}
@@ -25,15 +25,6 @@ signed-size (inf false) = refl
 signed-size (fin true m e) = refl
 signed-size (fin false m e) = refl
 
--- under a minus it is x where x has no plus
-pub minus-back : (x : Float) → hasSign false x ≡ false → neg (absOf x) ≡ x
-unfolding neg
-minus-back nan h = refl
-minus-back (inf true) h = refl
-minus-back (inf false) h = absurd (true≢false h)
-minus-back (fin true m e) h = refl
-minus-back (fin false m e) h = absurd (true≢false h)
-
 -- x is a zero where its size is
 pub zero-size : (x : Float) → eq x zeroF ≡ eq (absOf x) zeroF
 unfolding eq ofBits
@@ -56,8 +47,12 @@ pub zero-at-most : (x : Float) → eq x zeroF ≡ true → le x zeroF ≡ true
 unfolding le
 zero-at-most x h = or-true (lt x zeroF) (eq x zeroF) h
 
--- but for a zero the sign is minus just where x is at most zero
-pub sign-by-order : (x : Float) → eq x zeroF ≡ false → hasSign true x ≡ le x zeroF
+-- but for +0 the sign is minus just where x is at most zero
+and-true : (b : Bool) → b && true ≡ b
+and-true true = refl
+and-true false = refl
+
+pub sign-by-order : (x : Float) → eq x zeroF && hasSign false x ≡ false → hasSign true x ≡ le x zeroF
 unfolding le lt eq ofBits
 sign-by-order nan h = refl
 sign-by-order (inf true) h = refl
@@ -65,18 +60,14 @@ sign-by-order (inf false) h = refl
 sign-by-order (fin true m e) h = sym (is-true (le (fin true m e) zeroF) (⊑→le (fin true m e) zeroF tt tt (simp zero-mul (omega arith))))
 sign-by-order (fin false m e) h =
     let x = fin false m e in
-    sym (ap (_|| eq x zeroF) (le-not-lt zeroF x (is-true (le zeroF x) (plus-le x tt))) ∙ h)
+    sym (ap (_|| eq x zeroF) (le-not-lt zeroF x (is-true (le zeroF x) (plus-le x tt))) ∙ sym (and-true (eq x zeroF)) ∙ h)
 
 -- 1 added to a zero is the same for both of them
-and-true : (b : Bool) → b && true ≡ true → b ≡ true
-and-true true h = refl
-and-true false h = h
-
 pub zeros-plus-one : (f : Format) (x : Float) → eq x zeroF ≡ true → add f (neg (absOf x)) oneF ≡ add f x oneF
 unfolding add sum neg eq ofBits
 zeros-plus-one f nan h = refl
 zeros-plus-one f (inf s) h = absurd (false≢true h)
 zeros-plus-one f (fin true m e) h = refl
 zeros-plus-one f (fin false m e) h =
-    let z : m * up e ≡ 0 = eqb-true (m * up e) 0 (and-true (eqb (m * up e) 0) (simp (zero-mul, mul-one) at h)) in
+    let z : m * up e ≡ 0 = eqb-true (m * up e) 0 (sym (and-true (eqb (m * up e) 0)) ∙ (simp (zero-mul, mul-one) at h)) in
     simp (z, zero-mul, zero-add, sub-zero, one-mul, mul-one, lt-ltb 0 (down e) (down-pos e))

@@ -1,10 +1,10 @@
 -- Up to 0.0004 in size x is the result; past it x is no zero, so x at most zero is x with a minus sign.
 use mathlib.Core.Path.{_≡_, sym, subst}
-use mathlib.Core.Bool.{true, false}
+use mathlib.Core.Bool.{true}
 use lib.Ieee.{le}
 use borrow.Author.Needs.{needs}
 use Rattle.consts.specs.Consts.{tanhTiny}
-use Rattle.tanh.proofs.Zero.{tiny-itself, no-zero, by-order}
+use Rattle.tanh.proofs.Zero.{tiny-itself, past-tiny}
 use Rattle.tanh.proofs.tanh.Statement.{statement}
 use Rattle.tanh.proofs.tanh.Tie as tie
 
@@ -21,17 +21,13 @@ returns c =
 
 returns-2 : tie.Need-returns-2
 returns-2 c =
-    let at = c .before .before .before in
-    let past = subst (λ s. le s tanhTiny ≡ false) (at .abs-by-order .ensures) (c .before .if1 .left) in
-    let y = c .before .before .chosen .ensures (c .before .if1 .left) in
-    rw (by-order (at .before .args .x) (no-zero (at .before .args .x) past)) (simp (c .if2 .taken) (cc y))
+    let at = c .before .before in
+    rw (c .if2 .taken) at (past-tiny (at .before .before .args .x) (at .before .abs-by-order .ensures) (c .before .if1 .left) (at .chosen .ensures (c .before .if1 .left)))
 
 returns-3 : tie.Need-returns-3
 returns-3 c =
-    let at = c .before .before .before in
-    let past = subst (λ s. le s tanhTiny ≡ false) (at .abs-by-order .ensures) (c .before .if1 .left) in
-    let y = c .before .before .chosen .ensures (c .before .if1 .left) in
-    rw (by-order (at .before .args .x) (no-zero (at .before .args .x) past)) (simp (c .if2 .left) (cc y))
+    let at = c .before .before in
+    rw (c .if2 .left) at (past-tiny (at .before .before .args .x) (at .before .abs-by-order .ensures) (c .before .if1 .left) (at .chosen .ensures (c .before .if1 .left)))
 
 pub tanh-spec : {M : Type 1} → statement M
 tanh-spec = tie.close (tie.spec abs-by-order-requires chosen-requires returns returns-2 returns-3)
