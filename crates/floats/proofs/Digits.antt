@@ -1,26 +1,17 @@
--- The closest whole number to an f32, from its bits: what is cut off decides, and the pattern says where to cut. Assumes nothing.
-use mathlib.Core.Path.{_≡_, refl, sym, _∙_, ap, subst}
-use mathlib.Core.Bool.{Bool, true, false, cond, not}
-use Prim.Native.Nat.{ℕ, zero, suc, _+_, _-_, _*_, _/_, _%_, _^_, _<_, _≤_, compare}
+-- The bits of an f32: the fraction that a pattern stands for, and halves rounded to whole numbers by the last two bits. Assumes nothing.
+use mathlib.Core.Path.{_≡_, refl, sym, _∙_, ap}
+use mathlib.Core.Bool.{Bool, true, false, cond}
+use Prim.Native.Nat.{ℕ, zero, suc, _+_, _-_, _*_, _/_, _%_, _^_, _<_, _≤_}
 use native.Mathlib.Decide.{decLt}
-use native.Mathlib.Nat.{le-refl, le-trans, mod-lt, mul-assoc, mul-le-mul, mul-one}
+use native.Mathlib.Nat.{mul-one, mul-assoc, mul-right-comm, zero-mul, suc-mul, le-trans, le-of-eq, mul-le-mul-left, eq-of-mul-eq-mul-right}
 use native.Mathlib.Omega.{arith}
-use lib.Dec.{T, eqb, leb, lit<, lit≤}
-use lib.Pow.{pow-add, pow-pos, pow-mono, shl-exact, shr-le}
-use lib.Ieee.{Float, nan, inf, fin, binary32, up, odd, round, ofBits, ofFields, toBits, fits, isNan}
+use lib.Dec.{T, eqb, leb, lit≤}
+use lib.Pow.{pow-add, pow-pos}
+use lib.Ieee.{Float, nan, inf, fin, binary32, up, down, odd, ofBits, ofFields}
 use lib.Ieee.Exact.{HasValue, odd-sign}
-use lib.Ieee.Fits.{nearest-le}
-use lib.Ieee.Nearest.{closest, closest-same, closest-mono}
-use lib.Ieee.Positive.{num, den, den-pos, value→cross}
+use lib.Ieee.Fits.{down-pos}
 use lib.Ieee.Scale.{finite}
-use borrow.Author.Tests.{ne-eqb, lt-leb}
-use Rattle.floats.specs.Floats.{absOf, roundEven}
-use Rattle.floats.proofs.Pattern.{SignBit, sign-is, abs-bits}
-use Rattle.floats.proofs.Whole.{unscale, whole-stays}
-
--- the word 1 << cut
-pub one-shifted : (cut : ℕ) → cut ≤ 24 → 1 * 2 ^ cut % 2 ^ 32 ≡ 2 ^ cut
-one-shifted cut h = shl-exact {a = 1} 1 cut 32 (lit< tt) (omega arith) ∙ omega arith
+use borrow.Author.Tests.{lt-leb}
 
 -- ---- the fraction that a pattern with a clear sign stands for, in units of 2 ^ -149
 module _ (n : ℕ) (N : n < 2 ^ 31) where
@@ -50,104 +41,60 @@ module _ (n : ℕ) (N : n < 2 ^ 31) where
       go true false f = absurd f
       go false t f = refl
 
--- the closest whole number, by any fraction that the value equals
-closest-of : (v : Float) (a c : ℕ) → 0 < c → HasValue v false a c → closest (num v) (den v) ≡ closest a c
-closest-of v a c C h = closest-same (num v) (den v) a c (den-pos v) C (value→cross v a c h)
+-- ---- a whole number up to 2 ^ 23 has its last bit clear
+finite-value : (v : Float) (a c : ℕ) → HasValue v false a c → T (finite v)
+finite-value nan a c h = absurd h
+finite-value (inf s) a c h = absurd h
+finite-value (fin s m e) a c h = tt
 
--- ---- a pattern below that of 2 ^ 23
-module _ (n : ℕ) (N : n < 0x4b00_0000) where
-  abbrev v : Float
-  v = ofBits binary32 n
+-- what a value of 0 / 1, 1 / 1 .. is in units of 1 / u
+in-units : (v : Float) (a u w : ℕ) → HasValue v false a u → HasValue v false w 1 → a ≡ w * u
+in-units nan a u w h k = absurd h
+in-units (inf s) a u w h k = absurd h
+in-units (fin s m e) a u w h k =
+    eq-of-mul-eq-mul-right (down e) (down-pos e) a (w * u)
+    (sym (h .1) ∙ ap (λ z. z * u) (sym (mul-one (m * up e)) ∙ k .1) ∙ mul-right-comm w (down e) u)
 
-  -- below a half: 0
-  under-half : (a : ℕ) → a * 2 ≤ 1 * 2 ^ 149 → HasValue v false a (2 ^ 149) → 0 ≡ closest (num v) (den v)
-  under-half a h k = sym (closest-of v a (2 ^ 149) (pow-pos 149) k ∙ none (closest-mono a (2 ^ 149) 1 2 (pow-pos 149) (lit< tt) h))
+module _ (n w : ℕ) (N : n < 2 ^ 31) (v : HasValue (ofBits binary32 n) false w 1) (W : w ≤ 2 ^ 23) where
+  no-field : (u : ℕ) → 2 ^ 23 ≤ u → n / 2 ^ 23 ≡ 0 → n % 2 ^ 23 * 2 ^ 0 ≡ w * u → n % 2 ≡ 0
+  no-field u U e h = go w h
     where
-      none : {q : ℕ} → q ≤ 0 → q ≡ 0
-      none h = omega arith
+      go : (w : ℕ) → n % 2 ^ 23 * 2 ^ 0 ≡ w * u → n % 2 ≡ 0
+      go zero h = let z = zero-mul u in omega arith
+      go (suc w) h = let z = suc-mul w u in absurd (omega arith)
 
-  digits-le : 2 ^ 23 + n % 2 ^ 23 ≤ 2 ^ 24
-  digits-le = omega arith
+  twice : (z : ℕ) → 2 ^ 23 + n % 2 ^ 23 ≡ z * 2 → n % 2 ≡ 0
+  twice z e = omega arith
 
-  pub half : n < 0x3f00_0000 → 0 ≡ closest (num v) (den v)
-  half h = go (n / 2 ^ 23) refl
+  least : 2 ^ 23 + n % 2 ^ 23 ≤ w → n % 2 ≡ 0
+  least h = omega arith
+
+  field : (x : ℕ) → (2 ^ 23 + n % 2 ^ 23) * 2 ^ x ≡ w * 2 ^ 149 → n % 2 ≡ 0
+  field x h = elim (decLt x 149) [ yes l ↦ under (148 - x) (omega arith) | no l ↦ over (x - 149) (omega arith) ]
     where
-      small : n % 2 ^ 23 * 2 ^ 0 * 2 ≤ 2 ^ 24
-      small = omega arith
+      under : (t : ℕ) → 149 ≡ t + (1 + x) → n % 2 ≡ 0
+      under t e =
+          twice (w * 2 ^ t)
+          (eq-of-mul-eq-mul-right (2 ^ x) (pow-pos x) (2 ^ 23 + n % 2 ^ 23) (w * 2 ^ t * 2)
+          (h
+          ∙ ap (λ z. w * 2 ^ z) e
+          ∙ ap (λ z. w * z) (pow-add 2 t (1 + x) ∙ ap (λ z. 2 ^ t * z) (pow-add 2 1 x))
+          ∙ sym (mul-assoc (w * 2 ^ t) 2 (2 ^ x) ∙ mul-assoc w (2 ^ t) (2 * 2 ^ x))))
 
-      go : (k : ℕ) → n / 2 ^ 23 ≡ k → 0 ≡ closest (num v) (den v)
-      go zero e = under-half (n % 2 ^ 23 * 2 ^ 0) (le-trans small (lit≤ tt)) (small-value n (omega arith) e)
+      over : (t : ℕ) → x ≡ t + 149 → n % 2 ≡ 0
+      over t e =
+          let K = 2 ^ 23 + n % 2 ^ 23 in
+          let c : K * 2 ^ t ≡ w =
+          eq-of-mul-eq-mul-right (2 ^ 149) (pow-pos 149) (K * 2 ^ t) w
+          (mul-assoc K (2 ^ t) (2 ^ 149) ∙ ap (λ z. K * z) (sym (pow-add 2 t 149) ∙ ap (λ z. 2 ^ z) (sym e)) ∙ h) in
+          least (le-trans (le-of-eq (sym (mul-one K))) (le-trans (mul-le-mul-left K (pow-pos t)) (le-of-eq c)))
+
+  pub last-clear : n % 2 ≡ 0
+  last-clear = go (n / 2 ^ 23) refl
+    where
+      go : (k : ℕ) → n / 2 ^ 23 ≡ k → n % 2 ≡ 0
+      go zero e = no-field (2 ^ 149) (lit≤ tt) e (in-units (ofBits binary32 n) (n % 2 ^ 23 * 2 ^ 0) (2 ^ 149) w (small-value n N e) v)
       go (suc x) e =
-          let low : x ≤ 124 = omega arith in
-          under-half ((2 ^ 23 + n % 2 ^ 23) * 2 ^ x) (mul-le-mul (mul-le-mul digits-le (pow-mono low)) (le-refl 2))
-          (full-value n (omega arith) x e (ne-eqb (suc x) 255 (λ q. omega arith)))
-
-  -- from a half on: the digits with 150 less the field cut off
-  pub cut : 0x3f00_0000 ≤ n → closest (2 ^ 23 + n % 2 ^ 23) (2 ^ (150 - n / 2 ^ 23)) ≡ closest (num v) (den v)
-  cut h = go (n / 2 ^ 23) refl
-    where
-      go : (k : ℕ) → n / 2 ^ 23 ≡ k → closest (2 ^ 23 + n % 2 ^ 23) (2 ^ (150 - n / 2 ^ 23)) ≡ closest (num v) (den v)
-      go zero e = absurd (omega arith)
-      go (suc x) e =
-          let d : 150 - n / 2 ^ 23 ≡ 149 - x = omega arith in
-          let w : x + (149 - x) ≡ 149 = omega arith in
-          let M = 2 ^ 23 + n % 2 ^ 23 in
-          rw d
-          (sym
-          (closest-of v (M * 2 ^ x) (2 ^ 149) (pow-pos 149) (full-value n (omega arith) x e (ne-eqb (suc x) 255 (λ q. omega arith)))
-          ∙ closest-same (M * 2 ^ x) (2 ^ 149) M (2 ^ (149 - x)) (pow-pos 149) (pow-pos (149 - x))
-          (mul-assoc M (2 ^ x) (2 ^ (149 - x)) ∙ ap (λ z. M * z) (sym (pow-add 2 x (149 - x)) ∙ ap (λ z. 2 ^ z) w))))
-
-  -- either way few enough that f32 counts them
-  pub few : closest (num v) (den v) ≤ 2 ^ 24
-  few = elim (decLt n 0x3f00_0000) [
-    | yes h ↦ subst (λ q. q ≤ 2 ^ 24) (half h) (lit≤ tt)
-    | no h ↦ subst (λ q. q ≤ 2 ^ 24) (cut (omega arith)) (rounded-le (2 ^ 23 + n % 2 ^ 23) (150 - n / 2 ^ 23) (omega arith))
-  ]
-    where
-      rounded-le : (m k : ℕ) → m < 2 ^ 24 → closest m (2 ^ k) ≤ 2 ^ 24
-      rounded-le m k h = let a = shr-le m k in le-trans (nearest-le (m / 2 ^ k) (compare (m % 2 ^ k * 2) (2 ^ k))) (omega arith)
-
--- ---- a pattern from that of 2 ^ 23 on, with a clear sign: a whole number
-whole-from : (n : ℕ) → n < 2 ^ 31 → 0x4b00_0000 ≤ n → T (finite (ofBits binary32 n)) → (w : ℕ) × HasValue (ofBits binary32 n) false w 1
-whole-from n N h F = go (n / 2 ^ 23) refl
-  where
-    go : (k : ℕ) → n / 2 ^ 23 ≡ k → (w : ℕ) × HasValue (ofBits binary32 n) false w 1
-    go zero e = absurd (omega arith)
-    go (suc x) e =
-        let M = 2 ^ 23 + n % 2 ^ 23 in
-        let w : x ≡ x - 149 + 149 = omega arith in
-        let units : M * 2 ^ x ≡ M * 2 ^ (x - 149) * 2 ^ 149 =
-        ap (λ z. M * z) (ap (λ z. 2 ^ z) w ∙ pow-add 2 (x - 149) 149) ∙ sym (mul-assoc M (2 ^ (x - 149)) (2 ^ 149)) in (
-          M * 2 ^ (x - 149),
-          unscale (ofBits binary32 n) false (M * 2 ^ (x - 149)) (2 ^ 149) (pow-pos 149)
-              (subst (λ a. HasValue (ofBits binary32 n) false a (2 ^ 149)) units (full-value n N x e (not-last n N x e F))),
-        )
-
--- ---- the two ways of `round_ties_even`, by the size's pattern
-module _ (x : Float) (F : T (fits binary32 x)) (N : T (not (isNan x))) where
-  abbrev pattern : ℕ
-  pattern = toBits binary32 x % 2 ^ 31
-
-  pub is-whole : 0x4b00_0000 ≤ pattern → x ≡ roundEven binary32 x
-  is-whole h = go x F (abs-bits x F N) h
-    where
-      go : (x : Float) → T (fits binary32 x) → ofBits binary32 pattern ≡ absOf x → 0x4b00_0000 ≤ pattern → x ≡ roundEven binary32 x
-      go nan F e h = unfold roundEven in refl
-      go (inf s) F e h = unfold roundEven in refl
-      go (fin s m d) F e h =
-          let w = whole-from pattern (mod-lt (toBits binary32 x) (pow-pos 31)) h (subst (λ v. T (finite v)) (sym e) tt) in
-          let v : HasValue (fin false m d) false (w .0) 1 = subst (λ y. HasValue y false (w .0) 1) e (w .1) in
-          whole-stays binary32 s m d (w .0) F (sym (mul-one (m * up d)) ∙ v .1)
-
-  pub to-whole : pattern < 0x4b00_0000 → (s : Bool) (n : ℕ) → SignBit s (toBits binary32 x)
-      → n ≡ closest (num (ofBits binary32 pattern)) (den (ofBits binary32 pattern)) → round binary32 s n 1 ≡ roundEven binary32 x
-  to-whole h s n b e = go x F N h b (e ∙ ap (λ v. closest (num v) (den v)) (abs-bits x F N))
-    where
-      go : (x : Float) → T (fits binary32 x) → T (not (isNan x)) → toBits binary32 x % 2 ^ 31 < 0x4b00_0000 → SignBit s (toBits binary32 x)
-          → n ≡ closest (num (absOf x)) (den (absOf x)) → round binary32 s n 1 ≡ roundEven binary32 x
-      go nan F N h b e = absurd (unfold isNan in N)
-      go (inf true) F N h b e = absurd (unfold toBits in omega arith)
-      go (inf false) F N h b e = absurd (unfold toBits in omega arith)
-      go (fin t m d) F N h b e =
-          unfold roundEven in ap (λ z. round binary32 z n 1) (sym (sign-is t s m d F b)) ∙ ap (λ q. round binary32 t q 1) e
+          field x
+          (in-units (ofBits binary32 n) ((2 ^ 23 + n % 2 ^ 23) * 2 ^ x) (2 ^ 149) w
+          (full-value n N x e (not-last n N x e (finite-value (ofBits binary32 n) w 1 v))) v)

@@ -19,8 +19,11 @@ pub mod Formats
 pub mod Pattern
 pub mod Size
 pub mod Whole
+pub mod Middle
 pub mod Digits
+pub mod Halves
 pub mod Line
 pub mod Each
 pub mod Finite
 pub mod Scaled
+pub mod Ties

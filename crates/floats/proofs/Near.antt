@@ -18,7 +18,7 @@ Cmp Ordering·lt a b = a < b
 Cmp Ordering·eq a b = a ≡ b
 Cmp Ordering·gt a b = b < a
 
-cmp : (a b : ℕ) → Cmp (compare a b) a b
+pub cmp : (a b : ℕ) → Cmp (compare a b) a b
 cmp a b = go (compare a b) (leb→le a b) (nleb→lt a b) (eqb→eq a b) eq→eqb
   where
     go : (o : Ordering) → (T (isLe o) → a ≤ b) → (T (not (isLe o)) → b < a) → (T (isEq o) → a ≡ b) → (a ≡ b → T (isEq o))
@@ -26,6 +26,12 @@ cmp a b = go (compare a b) (leb→le a b) (nleb→lt a b) (eqb→eq a b) eq→eq
     go Ordering·lt h k e n = lt-of-le-ne (h tt) n
     go Ordering·eq h k e n = e tt
     go Ordering·gt h k e n = k tt
+
+-- of what is left of b, in the place of a
+abbrev pub flip : Ordering → Ordering
+flip Ordering·lt = Ordering·gt
+flip Ordering·eq = Ordering·eq
+flip Ordering·gt = Ordering·lt
 
 -- only one of the three holds
 cmp-one : (o p : Ordering) (a b : ℕ) → Cmp o a b → Cmp p a b → o ≡ p

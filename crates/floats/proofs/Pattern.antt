@@ -82,7 +82,7 @@ unfolding fits
 fits-sign f s t zero e h = h
 fits-sign f s t (suc m) e h = h
 
-sign-on : (m : ℕ) (e : ℤ) → toBits binary32 (fin true m e) ≡ 2 ^ 31 + toBits binary32 (fin false m e)
+pub sign-on : (m : ℕ) (e : ℤ) → toBits binary32 (fin true m e) ≡ 2 ^ 31 + toBits binary32 (fin false m e)
 unfolding toBits
 sign-on m e = omega arith
 

@@ -74,7 +74,7 @@ pub record Casts (x : Float) (n : ℕ) : Type 0 where
   pub whole : T (inUnsigned binary64 32 x)
   pub is : toUnsigned 32 x ≡ n
 
-value-number : (x : Float) (s : Bool) (a c : ℕ) → HasValue x s a c → T (not (isNan x))
+pub value-number : (x : Float) (s : Bool) (a c : ℕ) → HasValue x s a c → T (not (isNan x))
 unfolding isNan
 value-number nan s a c v = absurd v
 value-number (inf t) s a c v = absurd v

@@ -3,7 +3,7 @@
 use mathlib.Core.Path.{_≡_, refl, sym, _∙_, ap, subst}
 use mathlib.Core.Bool.{Bool, true, false, true≢false}
 use Prim.Native.Nat.{ℕ, zero, suc, _+_, _-_, _*_, _/_, _%_, _^_, _<_, _≤_, compare, Ordering, Ordering·lt, Ordering·eq, Ordering·gt}
-use native.Mathlib.Nat.{mul-one, mul-assoc, mul-right-comm, mul-comm, mul-pos, le-trans, le-of-eq, lt-of-lt-of-le, lt-of-le-of-lt, le-antisymm, not-le-of-lt, lt-of-not-le, mul-le-mul-right, mul-lt-mul-of-pos-right, div-lt-iff-lt-mul, mul-sub, le-div-iff-mul-le, eq-of-mul-eq-mul-right, add-mul-div-right, add-mul-mod-self-right}
+use native.Mathlib.Nat.{mul-one, mul-assoc, mul-right-comm, mul-comm, mul-pos, le-trans, le-of-eq, lt-of-lt-of-le, lt-of-le-of-lt, le-antisymm, not-le-of-lt, lt-of-not-le, mul-le-mul-right, mul-lt-mul-of-pos-right, div-lt-iff-lt-mul, mul-sub, le-div-iff-mul-le, eq-of-mul-eq-mul-right, add-mul-div-right, add-mul-mod-self-right, div-eq-of-lt, mod-eq-of-lt, mod-lt, add-comm, zero-add, div-add-mod', lt-of-mul-lt-mul-right, le-of-mul-le-mul-right, add-mul, suc-mul, one-mul}
 use native.Mathlib.Omega.{arith}
 use lib.Dec.{T, lit<}
 use lib.IntN.{ℤ, pos, negsuc}
@@ -13,11 +13,11 @@ use lib.Ieee.Back.{round-whole}
 use lib.Ieee.Digits.{size-lt, size-le}
 use lib.Ieee.Exact.{HasValue, units-val}
 use lib.Ieee.Fits.{round-is, down-pos, nearest-le}
-use lib.Ieee.Nearest.{nearest-ge, closest, closest-same}
+use lib.Ieee.Nearest.{closest, closest-same}
 use lib.Ieee.Scale.{round-same}
 use borrow.Author.Tests.{le-ltb, lt-ltb}
 use Rattle.floats.specs.Floats.{roundEven}
-use Rattle.floats.proofs.Near.{closest-exact}
+use Rattle.floats.proofs.Near.{Cmp, cmp, flip, closest-by, closest-exact}
 use Rattle.floats.proofs.Exact.{round-self, down-low}
 
 -- 2 ^ (prec - 1) twice, and room above it
@@ -34,12 +34,23 @@ size-is n j h k =
     le-antisymm (size-le n (suc j) k)
     (lt-of-not-le (λ (g : size n ≤ j). not-le-of-lt (lt-of-lt-of-le (size-lt n) (pow-mono g)) h))
 
+-- from one fraction to another that equals it
+pub rescale : (x : Float) (s : Bool) (a b n d : ℕ) → 0 < b → n * b ≡ a * d → HasValue x s a b → HasValue x s n d
+rescale nan s a b n d B e v = v
+rescale (inf t) s a b n d B e v = v
+rescale (fin t m k) s a b n d B e v = (
+  v .0,
+  eq-of-mul-eq-mul-right b B (m * up k * d) (n * down k)
+      (mul-right-comm (m * up k) d b
+      ∙ ap (λ z. z * d) (v .1)
+      ∙ mul-right-comm a (down k) d
+      ∙ ap (λ z. z * down k) (sym e)
+      ∙ mul-right-comm n b (down k)),
+)
+
 -- a number of units, as a whole number
 pub unscale : (x : Float) (s : Bool) (q u : ℕ) → 0 < u → HasValue x s (q * u) u → HasValue x s q 1
-unscale nan s q u U v = v
-unscale (inf t) s q u U v = v
-unscale (fin t m e) s q u U v =
-    (v .0, mul-one (m * up e) ∙ eq-of-mul-eq-mul-right u U (m * up e) (q * down e) (v .1 ∙ mul-right-comm q u (down e)))
+unscale x s q u U v = rescale x s (q * u) u q 1 U (sym (mul-one (q * u))) v
 
 -- ---- 2 ^ (prec - 1) ≤ n / d < 2 ^ prec
 module _ (f : Format) (n d : ℕ) (D : 0 < d) (lo : 2 ^ (prec f - 1) * d ≤ n) (hi : n < 2 ^ prec f * d) where
@@ -68,9 +79,6 @@ module _ (f : Format) (n d : ℕ) (D : 0 < d) (lo : 2 ^ (prec f - 1) * d ≤ n) 
   whole-le : closest n d ≤ 2 ^ prec f
   whole-le = le-trans (nearest-le (n / d) (compare (n % d * 2) d)) (div-lt-iff-lt-mul D .1 hi)
 
-  pub whole-ge : 2 ^ (prec f - 1) ≤ closest n d
-  whole-ge = le-trans (le-div-iff-mul-le D .1 lo) (nearest-ge (n / d) (compare (n % d * 2) d))
-
   -- such a fraction rounds to the closest whole number
   pub whole-value : (s : Bool) → HasValue (round f s n d) s (closest n d) 1
   whole-value s = subst (λ x. HasValue x s (closest n d) 1) (sym on-grid) (unscale (units f s (closest n d) (low f)) s (closest n d) (2 ^ low f) (pow-pos (low f)) (units-val f s (closest n d) (low f) room))
@@ -89,18 +97,53 @@ module _ (f : Format) (n d : ℕ) (D : 0 < d) (lo : 2 ^ (prec f - 1) * d ≤ n) 
           (subst (λ z. 2 ^ prec f * 2 ^ low f < z) (sym (pow-add 2 (low f) (suc (emax f)) ∙ mul-comm (2 ^ low f) (2 ^ suc (emax f))))
           (mul-lt-mul-of-pos-right (pow-lt (reach f)) (pow-pos (low f))))
 
--- ---- the closest whole number to n / d + w, for an even w
-pub closest-shift : (n d w : ℕ) → 0 < d → w % 2 ≡ 0 → closest (n + w * d) d ≡ closest n d + w
-closest-shift n d w D h = rw (add-mul-div-right n w D, add-mul-mod-self-right) (shift (n / d) (compare (n % d * 2) d))
+sub-mul : (a b c : ℕ) → (a - b) * c ≡ a * c - b * c
+sub-mul a b c = mul-comm (a - b) c ∙ mul-sub c a b ∙ rw (mul-comm c a, mul-comm c b)
+
+-- ---- the closest whole number to w - n / d, for an even w
+at : (q r d : ℕ) → 0 < d → r < d → (o : Ordering) → Cmp o (r * 2) d → closest (r + q * d) d ≡ nearest q o
+at q r d D h o c =
+    let rest : (r + q * d) % d ≡ r = add-mul-mod-self-right r q d ∙ mod-eq-of-lt h in
+    let whole : (r + q * d) / d ≡ q = add-mul-div-right r q D ∙ ap (λ z. z + q) (div-eq-of-lt h) ∙ zero-add q in
+    sym (closest-by (r + q * d) d o (subst (λ z. Cmp o (z * 2) d) (sym rest) c)) ∙ ap (λ z. nearest z o) whole
+
+pub closest-less : (n d w : ℕ) → 0 < d → w % 2 ≡ 0 → n ≤ w * d → closest (w * d - n) d ≡ w - closest n d
+closest-less n d w D h l =
+    subst (λ z. closest (w * d - z) d ≡ w - closest z d) parts
+    (go (n / d) (n % d) (mod-lt n D) (compare (n % d * 2) d) (cmp (n % d * 2) d) (subst (λ z. z ≤ w * d) (sym parts) l))
   where
-    shift : (q : ℕ) (o : Ordering) → nearest (q + w) o ≡ nearest q o + w
-    shift q Ordering·lt = refl
-    shift q Ordering·eq = omega arith
-    shift q Ordering·gt = omega arith
+    parts : n % d + n / d * d ≡ n
+    parts = add-comm (n % d) (n / d * d) ∙ div-add-mod' n d
+
+    turned : (q v : ℕ) (o : Ordering) → w ≡ v + suc q → nearest v (flip o) ≡ w - nearest q o
+    turned q v Ordering·lt e = omega arith
+    turned q v Ordering·eq e = omega arith
+    turned q v Ordering·gt e = omega arith
+
+    other : (r : ℕ) (o : Ordering) → 0 < r → r < d → Cmp o (r * 2) d → Cmp (flip o) ((d - r) * 2) d
+    other r Ordering·lt p k c = omega arith
+    other r Ordering·eq p k c = omega arith
+    other r Ordering·gt p k c = omega arith
+
+    go : (q r : ℕ) → r < d → (o : Ordering) → Cmp o (r * 2) d → r + q * d ≤ w * d → closest (w * d - (r + q * d)) d ≡ w - closest (r + q * d) d
+    go q zero k o c t =
+        closest-exact (w * d - (0 + q * d)) d (w - q) D (ap (λ z. w * d - z) (zero-add (q * d)) ∙ sym (sub-mul w q d))
+        ∙ ap (λ z. w - z) (sym (closest-exact (0 + q * d) d q D (zero-add (q * d))))
+    go q (suc r) k o c t =
+        let under : q < w = lt-of-mul-lt-mul-right d (omega arith) in
+        let v = w - suc q in
+        let e : w ≡ v + suc q = omega arith in
+        let m : w * d ≡ v * d + suc q * d = ap (λ z. z * d) e ∙ add-mul v (suc q) d in
+        let s = suc-mul q d in
+        let left : w * d - (suc r + q * d) ≡ d - suc r + v * d = omega arith in
+        ap (λ z. closest z d) left
+        ∙ at v (d - suc r) d D (omega arith) (flip o) (other (suc r) o (omega arith) k c)
+        ∙ turned q v o e
+        ∙ ap (λ z. w - z) (sym (at q (suc r) d D k o c))
 
 -- ---- a whole number less another, a * 2 ^ k
 taken : (a b q w d : ℕ) → a ≡ q * d → b ≡ w * d → (a - b) * 1 ≡ (q - w) * (d * 1)
-taken a b q w d e g = mul-one (a - b) ∙ rw (e, g, mul-one, mul-comm q d, mul-comm w d, mul-comm (q - w) d) (sym (mul-sub d q w))
+taken a b q w d e g = mul-one (a - b) ∙ rw (e, g, mul-one) (sym (sub-mul q w d))
 
 pub sub-back : (f : Format) (x : Float) (q a k : ℕ) → HasValue x false q 1 → a * 2 ^ k ≤ q
     → sub f x (fin false a (pos k)) ≡ round f false (q - a * 2 ^ k) 1
@@ -127,6 +170,24 @@ sub-past f (fin false m e) q a k v h =
     simp (lt-ltb A B (subst (λ (z : ℕ). z < B) (sym (v .1)) (mul-lt-mul-of-pos-right h (down-pos e))))
     (round-same f true (B - A) (down e * 1) (a * 2 ^ k - q) 1 (mul-pos (down-pos e) (lit< tt)) (lit< tt)
     (taken B A (a * 2 ^ k) q (down e) refl (v .1)))
+
+-- ---- a whole number, w = a * 2 ^ k, less any fraction up to it
+pub less : (f : Format) (y : Float) (n c a k : ℕ) → 0 < c → HasValue y false n c → n ≤ a * 2 ^ k * c
+    → sub f (fin false a (pos k)) y ≡ round f false (a * 2 ^ k * c - n) c
+unfolding sub add neg sum
+less f nan n c a k C v h = absurd v
+less f (inf t) n c a k C v h = absurd v
+less f (fin true m e) n c a k C v h = absurd (true≢false (v .0))
+less f (fin false m e) n c a k C v h =
+    let w = a * 2 ^ k in
+    let D = down e in
+    let same : m * up e * 1 * c ≡ n * D = ap (λ z. z * c) (mul-one (m * up e)) ∙ v .1 in
+    let under : m * up e * 1 ≤ w * D =
+    le-of-mul-le-mul-right (le-trans (le-of-eq same) (le-trans (mul-le-mul-right D h) (le-of-eq (mul-right-comm w c D)))) C in
+    simp (le-ltb (w * D) (m * up e * 1) under)
+    (round-same f false (w * D - m * up e * 1) (1 * D) (w * c - n) c (mul-pos (lit< tt) (down-pos e)) C
+    (sub-mul (w * D) (m * up e * 1) c
+    ∙ rw (same, one-mul, sub-mul (w * c) n D) (ap (λ z. z - n * D) (mul-right-comm w D c))))
 
 -- ---- `roundEven`
 -- a whole number stays as it is

@@ -1,51 +1,46 @@
-// f32 to the nearest whole number, ties to the even one, from the bits.
+// f32 to the nearest whole number, ties to the even one, by the same steps for every size up to 2^23, so that a loop over it runs in lanes.
+ghost use mathlib.Core.Bool.{true};
 ghost use mathlib.Core.Path.{_≡_};
-ghost use Prim.Native.Nat.{_^_, _≤_, _<_};
-ghost use lib.Ieee.{binary32, ofBits};
-ghost use lib.Ieee.Nearest.{closest};
-ghost use lib.Ieee.Positive.{num, den};
-ghost use Rattle.floats.specs.Floats.{roundEven};
+ghost use lib.Ieee.{binary32, le, neg};
+ghost use Rattle.floats.specs.Floats.{absOf, roundEven};
+ghost use Rattle.floats.specs.Values.{f32};
 
-// The whole number nearest to m / 2^cut: the digits past the point are cut off, and twice what they make is held against 1.
-fn rounded(m: u32, cut: u32) -> u32
-    requires { ⌜ (m < 2 ^ 24) × (cut ≤ 24) ⌝ }
-    ensures { λ r. ⌜ r ≡ closest m (2 ^ cut) ⌝ }
+// 2^23: from here on every f32 is a whole number.
+const WHOLE_FROM: f32 = 8388608.0;
+
+// 3 * 2^22, halfway from 2^23 to 2^24.
+const ROUNDING_MAGIC: f32 = 12582912.0;
+
+// Up to a size of 2^22 the inner difference lies from 2^23 to 2^24, where f32 has whole numbers only, and so it rounds to one; past 2^22
+// it is exact. Then the last bit counts halves, and a half goes to the even whole number; a whole number has that bit clear, and stays.
+fn whole_size(size: f32) -> f32
+    requires { ⌜ (absOf size ≡ size) × (le size (f32 0x4b00_0000) ≡ true) ⌝ }
+    ensures { λ r. ⌜ r ≡ roundEven binary32 size ⌝ }
 {
-    let one: u32 = 1 << cut;
-    let q = m >> cut;
-    let twice = m % one * 2;
-    if twice < one {
-        return q;
-    }
-    if one < twice {
-        return q + 1;
-    }
-    q + q % 2
+    let halves = f32::to_bits(ROUNDING_MAGIC - (ROUNDING_MAGIC - size));
+    let even = halves + halves / 2 % 2;
+    f32::from_bits(even - even % 2)
 }
 
-// The whole number nearest to the float that `size` is the pattern of, which is below 2^23.
-fn whole_size(size: u32) -> u32
-    requires { ⌜ size < 0x4b00_0000 ⌝ }
-    ensures { λ r. ⌜ r ≡ closest (num (ofBits binary32 size)) (den (ofBits binary32 size)) ⌝ }
+// The sign, taken off and put back, stays on a zero too.
+fn within(x: f32) -> f32
+    requires { ⌜ (le x (f32 0x4b00_0000) ≡ true) × (le (neg (f32 0x4b00_0000)) x ≡ true) ⌝ }
+    ensures { λ r. ⌜ r ≡ roundEven binary32 x ⌝ }
 {
-    if size < 0x3f000000 {
-        return 0;
-    }
-    rounded(0x800000 + size % 0x800000, 150 - size / 0x800000)
+    let bits = f32::to_bits(x);
+    let size = bits % 0x80000000;
+    let whole = f32::to_bits(whole_size(f32::from_bits(size)));
+    f32::from_bits(whole + (bits - size))
 }
 
-// From 2^23 on every f32 is a whole number. The sign stays, also on a zero.
+// A NaN fails the tests too, and stays.
 pub fn round_ties_even(x: f32) -> f32
     ensures { λ r. ⌜ r ≡ roundEven binary32 x ⌝ }
 {
-    if x != x {
-        return x;
+    if x <= WHOLE_FROM {
+        if x >= -WHOLE_FROM {
+            return within(x);
+        }
     }
-    let bits = f32::to_bits(x);
-    let size = bits % 0x80000000;
-    if size >= 0x4b000000 {
-        return x;
-    }
-    let r = whole_size(size) as f32;
-    if bits < 0x80000000 { r } else { -r }
+    x
 }
