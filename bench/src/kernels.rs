@@ -20,8 +20,6 @@ pub struct Kernel {
     pub only: Option<usize>,
     /// Ours by the Rust, at most; asked at n = 1024 or the only size.
     pub limit: Option<f64>,
-    /// Whether it rounds by bits: its ratio is told, and no limit holds it.
-    pub by_bits: bool,
     /// Whether ours by the branch-free loop is a goal.
     pub goal: bool,
 }
@@ -33,8 +31,7 @@ const ORDERED_LIMIT: Option<f64> = Some(1.1);
 const SPLIT_LIMIT: Option<f64> = Some(1.5);
 /// Ours by the branch-free loop, for the kernels below.
 pub const GOAL: f64 = 1.6;
-const GOALS: [&str; 7] = ["exp", "sigmoid", "silu", "tanh", "erf", "gelu", "softmax"];
-const BY_BITS: [&str; 3] = ["sin", "cos", "quantize"];
+const GOALS: [&str; 10] = ["exp", "sigmoid", "silu", "tanh", "erf", "gelu", "sin", "cos", "softmax", "quantize"];
 
 fn kernel(name: &'static str, range: (f32, f32), limit: Option<f64>, ours: Call, rust: Call) -> Kernel {
     Kernel {
@@ -45,7 +42,6 @@ fn kernel(name: &'static str, range: (f32, f32), limit: Option<f64>, ours: Call,
         bias: 0.5,
         only: None,
         limit,
-        by_bits: BY_BITS.contains(&name),
         goal: GOALS.contains(&name),
     }
 }

@@ -83,14 +83,12 @@ fn verdicts(lines: &[Line], who: Who, limit: impl Fn(&Kernel) -> Option<f64>) {
         let (Some(limit), Some(ratio)) = (limit(line.kernel), line.ratio(who)) else {
             continue;
         };
-        let (limit, verdict) = if line.kernel.by_bits {
-            (String::new(), "rounds by bits: no limit until request L5".to_string())
-        } else if ratio <= limit {
-            (number(limit), "holds".to_string())
+        let verdict = if ratio <= limit {
+            "holds".to_string()
         } else {
-            (number(limit), format!("does not hold, by {} %", number(100.0 * (ratio / limit - 1.0))))
+            format!("does not hold, by {} %", number(100.0 * (ratio / limit - 1.0)))
         };
-        rows.push(vec![line.kernel.name.to_string(), number(ratio), limit, verdict]);
+        rows.push(vec![line.kernel.name.to_string(), number(ratio), number(limit), verdict]);
     }
     table(&rows);
 }

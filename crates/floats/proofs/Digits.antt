@@ -1,5 +1,5 @@
 -- The bits of an f32: the fraction that a pattern stands for, and halves rounded to whole numbers by the last two bits. Assumes nothing.
-use mathlib.Core.Path.{_≡_, refl, sym, _∙_, ap}
+use mathlib.Core.Path.{_≡_, refl, sym, _∙_, ap, subst}
 use mathlib.Core.Bool.{Bool, true, false, cond}
 use Prim.Native.Nat.{ℕ, zero, suc, _+_, _-_, _*_, _/_, _%_, _^_, _<_, _≤_}
 use native.Mathlib.Decide.{decLt}
@@ -11,7 +11,7 @@ use lib.Ieee.{Float, nan, inf, fin, binary32, up, down, odd, ofBits, ofFields}
 use lib.Ieee.Exact.{HasValue, odd-sign}
 use lib.Ieee.Fits.{down-pos}
 use lib.Ieee.Scale.{finite}
-use borrow.Author.Tests.{lt-leb}
+use borrow.Author.Tests.{ne-eqb, lt-leb}
 
 -- ---- the fraction that a pattern with a clear sign stands for, in units of 2 ^ -149
 module _ (n : ℕ) (N : n < 2 ^ 31) where
@@ -22,17 +22,17 @@ module _ (n : ℕ) (N : n < 2 ^ 31) where
   unsigned = lt-leb (2 ^ 31) n N
 
   -- a field of 0: no leading digit
-  pub small-value : n / 2 ^ 23 ≡ 0 → HasValue (ofBits binary32 n) false (n % 2 ^ 23 * 2 ^ 0) (2 ^ 149)
+  small-value : n / 2 ^ 23 ≡ 0 → HasValue (ofBits binary32 n) false (n % 2 ^ 23 * 2 ^ 0) (2 ^ 149)
   unfolding ofBits ofFields
   small-value e = rw (below, unsigned, e) (odd-sign 24 false (n % 2 ^ 23) 0 149)
 
   -- any other field but the last
-  pub full-value : (x : ℕ) → n / 2 ^ 23 ≡ suc x → eqb (suc x) 255 ≡ false → HasValue (ofBits binary32 n) false ((2 ^ 23 + n % 2 ^ 23) * 2 ^ x) (2 ^ 149)
+  full-value : (x : ℕ) → n / 2 ^ 23 ≡ suc x → eqb (suc x) 255 ≡ false → HasValue (ofBits binary32 n) false ((2 ^ 23 + n % 2 ^ 23) * 2 ^ x) (2 ^ 149)
   unfolding ofBits ofFields
   full-value x e l = rw (below, unsigned, e, l) (odd-sign 24 false (2 ^ 23 + n % 2 ^ 23) x 149)
 
   -- a finite value has such a field
-  pub not-last : (x : ℕ) → n / 2 ^ 23 ≡ suc x → T (finite (ofBits binary32 n)) → eqb (suc x) 255 ≡ false
+  not-last : (x : ℕ) → n / 2 ^ 23 ≡ suc x → T (finite (ofBits binary32 n)) → eqb (suc x) 255 ≡ false
   unfolding ofBits ofFields
   not-last x e = rw (below, unsigned, e) (go (eqb (suc x) 255) (eqb (n % 2 ^ 23) 0))
     where
@@ -40,6 +40,15 @@ module _ (n : ℕ) (N : n < 2 ^ 31) where
       go true true f = absurd f
       go true false f = absurd f
       go false t f = refl
+
+-- the pattern counts the digits: from 2 ^ 23 to 2 ^ 24, in units of 2 ^ (k - 149)
+pub counted : (k b : ℕ) → k < 254 → 2 ^ 23 ≤ b → b < 2 ^ 24 → HasValue (ofBits binary32 (k * 2 ^ 23 + b)) false (b * 2 ^ k) (2 ^ 149)
+counted k b K lo hi =
+    let n = k * 2 ^ 23 + b in
+    let field : n / 2 ^ 23 ≡ suc k = omega arith in
+    let digits : 2 ^ 23 + n % 2 ^ 23 ≡ b = omega arith in
+    subst (λ z. HasValue (ofBits binary32 n) false (z * 2 ^ k) (2 ^ 149)) digits
+    (full-value n (omega arith) k field (ne-eqb (suc k) 255 (λ q. omega arith)))
 
 -- ---- a whole number up to 2 ^ 23 has its last bit clear
 finite-value : (v : Float) (a c : ℕ) → HasValue v false a c → T (finite v)

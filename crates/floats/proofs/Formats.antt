@@ -17,6 +17,7 @@ use Rattle.floats.proofs.Order.{Zeros, le-antisym}
 use Rattle.floats.proofs.Monotone.{add-rounds, add-mono, sub-mono, mul-rounds, mul-mono-r, mul-anti-r, mul-comm-f}
 use Rattle.floats.proofs.Exact.{value-unique, round-self, sub-self-f, one-mul-f, mul-one-f, add-whole}
 use Rattle.floats.proofs.Whole.{whole-value, round-even-value}
+use Rattle.floats.proofs.Middle.{middle, middle-rounds, middle-stays}
 use Rattle.floats.proofs.Error.{Err, Normal, round-err, normal-err, result-err, whole-err}
 use Rattle.floats.proofs.Magnitude.{Below, round-below, mul-below, add-below, sub-below, div-below}
 use Rattle.floats.proofs.NoNan.{round-number, add-number, sub-number, mul-number, div-number}
@@ -50,6 +51,10 @@ pub record Laws (f : Format) : Type 0 where
   pub whole-value : (n d : ℕ) → 0 < d → 2 ^ (prec f - 1) * d ≤ n → n < 2 ^ prec f * d → (s : Bool) → HasValue (round f s n d) s (closest n d) 1
   pub round-even-value : (s : Bool) (m : ℕ) (e : ℤ) → T (fits f (fin s m e))
       → HasValue (roundEven f (fin s m e)) s (closest (m * up e) (down e)) 1
+  pub middle-rounds : (m : ℕ) (e : ℤ) → T (fits f (fin false m e)) → m * up e ≤ 2 ^ (prec f - 2) * down e
+      → sub f (middle f) (sub f (middle f) (fin false m e)) ≡ roundEven f (fin false m e)
+  pub middle-stays : (m : ℕ) (e : ℤ) → T (fits f (fin false m e)) → 2 ^ (prec f - 2) * down e < m * up e → m * up e ≤ 2 * 2 ^ (prec f - 2) * down e
+      → sub f (middle f) (sub f (middle f) (fin false m e)) ≡ fin false m e
   -- the error of one rounding
   pub round-err : (a c : ℕ) → 0 < c → Err f (grid f a c) (a * 2 ^ low f) c (a * 2 ^ low f + c * hid f)
   pub normal-err : (a c : ℕ) → 0 < c → Normal f a c → Err f (grid f a c) (a * 2 ^ low f) c (a * 2 ^ low f)
@@ -91,6 +96,8 @@ laws f = record {
   add-whole = add-whole f;
   whole-value = whole-value f;
   round-even-value = round-even-value f;
+  middle-rounds = middle-rounds f;
+  middle-stays = middle-stays f;
   round-err = round-err f;
   normal-err = normal-err f;
   result-err = result-err f;

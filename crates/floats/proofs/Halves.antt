@@ -17,9 +17,9 @@ use lib.Ieee.Exact.{HasValue}
 use lib.Ieee.Fits.{round-fits, down-pos}
 use lib.Ieee.Nearest.{closest, closest-same, closest-mono}
 use Rattle.floats.specs.Floats.{roundEven}
-use Rattle.floats.proofs.Digits.{full-value, last-clear}
+use Rattle.floats.proofs.Digits.{counted, last-clear}
 use Rattle.floats.proofs.Exact.{value-unique}
-use Rattle.floats.proofs.Middle.{middle, digit, rounds, stays}
+use Rattle.floats.proofs.Middle.{middle, digit, middle-rounds, middle-stays}
 use Rattle.floats.proofs.Near.{closest-by}
 use Rattle.floats.proofs.Pattern.{sign-off}
 use Rattle.floats.proofs.Scaled.{even-fits, value-number}
@@ -69,11 +69,8 @@ halves-value b h k = elim (decLt b (2 ^ 24)) [
 
     under : b < 2 ^ 24 → HasValue (ofBits binary32 (0x4a00_0000 + b)) false b 2
     under l =
-        let n = 0x4a00_0000 + b in
-        let field : n / 2 ^ 23 ≡ 149 = omega arith in
-        let digits : 2 ^ 23 + n % 2 ^ 23 ≡ b = omega arith in
-        rescale (ofBits binary32 n) false (b * 2 ^ 148) (2 ^ 149) b 2 (pow-pos 149) (sym (mul-assoc b (2 ^ 148) 2))
-        (subst (λ z. HasValue (ofBits binary32 n) false (z * 2 ^ 148) (2 ^ 149)) digits (full-value n (omega arith) 148 field refl))
+        rescale (ofBits binary32 (0x4a00_0000 + b)) false (b * 2 ^ 148) (2 ^ 149) b 2 (pow-pos 149) (sym (mul-assoc b (2 ^ 148) 2))
+        (counted 148 b (lit< tt) h l)
 
 module _ (m : ℕ) (e : ℤ) (F : T (fits binary32 (fin false m e))) where
   abbrev x : Float
@@ -139,8 +136,8 @@ pub size-evens : (m : ℕ) (e : ℤ) → T (fits binary32 (fin false m e)) → m
     → Evens (fin false m e) (sub binary32 (middle binary32) (sub binary32 (middle binary32) (fin false m e)))
 size-evens m e F h =
     elim (decLt (2 ^ 22 * down e) (m * up e)) [
-      | yes l ↦ subst (Evens x) (sym (stays binary32 m e F l h)) (evens x x (m * up e) (down e) F (refl, refl) (halves m e F l h))
-      | no l ↦ subst (Evens x) (sym (rounds binary32 m e F (omega arith))) (evens x r q 1 (even-fits x) v (whole-stays r q (few (omega arith)) (even-fits x) v))
+      | yes l ↦ subst (Evens x) (sym (middle-stays binary32 m e F l h)) (evens x x (m * up e) (down e) F (refl, refl) (halves m e F l h))
+      | no l ↦ subst (Evens x) (sym (middle-rounds binary32 m e F (omega arith))) (evens x r q 1 (even-fits x) v (whole-stays r q (few (omega arith)) (even-fits x) v))
     ]
   where
     x : Float

@@ -1,10 +1,10 @@
 -- An f32 from 2 ^ 23 up to below 2 ^ 24 is a whole number, and its pattern counts it. Assumes nothing.
 use mathlib.Core.Path.{_≡_, refl, sym, _∙_, ap, subst}
 use mathlib.Core.Bool.{true, false, not}
-use Prim.Native.Nat.{ℕ, zero, suc, _+_, _-_, _*_, _/_, _%_, _^_, _<_, _≤_}
+use Prim.Native.Nat.{ℕ, zero, suc, _+_, _-_, _*_, _^_, _<_, _≤_}
 use native.Mathlib.Decide.{decLt}
 use native.Mathlib.Omega.{arith}
-use lib.Dec.{T}
+use lib.Dec.{T, lit<}
 use lib.IntN.{pos, negsuc}
 use lib.Pow.{pow-pos, pow-mono}
 use lib.Ieee.{Float, nan, inf, fin, binary32, down, round, sub, le, isNan, fits, ofBits, toBits, ofInt, inFloat, toSigned}
@@ -16,7 +16,7 @@ use lib.Ieee.Scale.{finite}
 use borrow.Author.Tests.{lt-ltb, le-leb}
 use Rattle.floats.specs.Fraction.{frac, _⊑_}
 use Rattle.floats.specs.Words.{subWord, truncWord}
-use Rattle.floats.proofs.Digits.{full-value}
+use Rattle.floats.proofs.Digits.{counted}
 use Rattle.floats.proofs.Exact.{down-low}
 use Rattle.floats.proofs.Order.{finite-between}
 use Rattle.floats.proofs.Signed.{le→⊑}
@@ -62,11 +62,8 @@ module _ (x : Float) (o : OnLine x) where
   pub line-bits : T (fits binary32 x) → toBits binary32 x ≡ 0x4a80_0000 + o .at
   line-bits F =
       let n = 0x4a80_0000 + o .at in
-      let field : n / 2 ^ 23 ≡ 150 = omega arith in
-      let digits : 2 ^ 23 + n % 2 ^ 23 ≡ o .at = omega arith in
       let v : HasValue (ofBits binary32 n) false (o .at) 1 =
-      subst (λ q. HasValue (ofBits binary32 n) false q 1) digits
-      (unscale (ofBits binary32 n) false (2 ^ 23 + n % 2 ^ 23) (2 ^ 149) (pow-pos 149) (full-value n (omega arith) 149 field refl)) in
+      unscale (ofBits binary32 n) false (o .at) (2 ^ 149) (pow-pos 149) (counted 149 (o .at) (lit< tt) (o .from) (o .under)) in
       let e : x ≡ ofBits binary32 n = whole-unique binary32 x (ofBits binary32 n) false (o .at) F (ofBits-fits binary32 n) (o .is) v in
       ap (toBits binary32) e ∙ toBits-ofBits binary32 n (omega arith) (subst (λ y. T (not (isNan y))) e line-number)
 

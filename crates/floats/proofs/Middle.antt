@@ -61,9 +61,9 @@ module _ (f : Format) (m : ℕ) (e : ℤ) (F : T (fits f (fin false m e))) where
   inner : m * up e ≤ 3 * p * down e → sub f (middle f) x ≡ round f false (3 * p * down e - m * up e) (down e)
   inner h = less f x (m * up e) (down e) 3 (prec f - 2) (down-pos e) (refl, refl) h
 
-  pub rounds : m * up e ≤ p * down e → sub f (middle f) (sub f (middle f) x) ≡ roundEven f x
+  pub middle-rounds : m * up e ≤ p * down e → sub f (middle f) (sub f (middle f) x) ≡ roundEven f x
   unfolding roundEven
-  rounds h =
+  middle-rounds h =
       let a = m * up e in
       let d = down e in
       let q = closest a d in
@@ -89,8 +89,8 @@ module _ (f : Format) (m : ℕ) (e : ℤ) (F : T (fits f (fin false m e))) where
       room : (p e l : ℕ) → p ≤ e → j ≤ l → p + j ≤ l + e
       room p e l h k = omega arith
 
-  pub stays : p * down e < m * up e → m * up e ≤ 2 * p * down e → sub f (middle f) (sub f (middle f) x) ≡ x
-  stays h k =
+  pub middle-stays : p * down e < m * up e → m * up e ≤ 2 * p * down e → sub f (middle f) (sub f (middle f) x) ≡ x
+  middle-stays h k =
       let a = m * up e in
       let d = down e in
       let w = mul-assoc 3 p d in
