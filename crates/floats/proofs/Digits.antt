@@ -56,7 +56,7 @@ finite-value nan a c h = absurd h
 finite-value (inf s) a c h = absurd h
 finite-value (fin s m e) a c h = tt
 
--- what a value of 0 / 1, 1 / 1 .. is in units of 1 / u
+-- a whole number w in units of 1 / u
 in-units : (v : Float) (a u w : ℕ) → HasValue v false a u → HasValue v false w 1 → a ≡ w * u
 in-units nan a u w h k = absurd h
 in-units (inf s) a u w h k = absurd h

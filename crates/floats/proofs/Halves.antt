@@ -25,12 +25,9 @@ use Rattle.floats.proofs.Pattern.{sign-off}
 use Rattle.floats.proofs.Scaled.{even-fits, value-number}
 use Rattle.floats.proofs.Whole.{rescale, round-even-value}
 
--- by the last two bits of a pattern
+-- a pattern with the last bit cleared, moved up first where the last but one is set
 abbrev pub evened : ℕ → ℕ
 evened n = n + n / 2 % 2 - (n + n / 2 % 2) % 2
-
-le-mul-right : (q : ℕ) → q ≤ q * 2
-le-mul-right q = omega arith
 
 even-stays : (n : ℕ) → n % 2 ≡ 0 → evened n ≡ n
 even-stays n h = omega arith
@@ -54,6 +51,9 @@ evened-above b w e = rw (same b) (shift (b / 2 % 2) e)
 
 room : (b : ℕ) → b ≤ 2 ^ 24 → 0x4a00_0000 + b < 2 ^ 32
 room b h = omega arith
+
+le-twice : (q : ℕ) → q ≤ q * 2
+le-twice q = omega arith
 
 evened-ends : (b w : ℕ) → 2 ^ 23 ≤ b → b ≤ 2 ^ 24 → evened b ≡ w → (2 ^ 23 ≤ w) × (w ≤ 2 ^ 24)
 evened-ends b w h k e = (omega arith, omega arith)
@@ -104,7 +104,7 @@ module _ (m : ℕ) (e : ℤ) (F : T (fits binary32 (fin false m e))) where
       ∙ whole-unique binary32 (ofBits binary32 (0x4a00_0000 + q * 2)) (round binary32 false q 1) false q
       (ofBits-fits binary32 (0x4a00_0000 + q * 2)) (round-fits binary32 false q 1)
       (rescale (ofBits binary32 (0x4a00_0000 + q * 2)) false (q * 2) 2 q 1 (lit< tt) (sym (mul-one (q * 2))) w)
-      (round-whole binary32 false q (le-trans (le-mul-right q) (t .1)))
+      (round-whole binary32 false q (le-trans (le-twice q) (t .1)))
       ∙ ap (λ z. round binary32 false z 1) (sym (closest-same (m * up e) (down e) b 2 (down-pos e) (lit< tt) (g .1)))
 
 -- ---- up to 2 ^ 22 a whole number comes in
@@ -114,8 +114,8 @@ no-sign (inf s) a c F v = absurd v
 no-sign (fin true m e) a c F v = absurd (true≢false (v .0))
 no-sign (fin false m e) a c F v = subst (λ z. z < 2 ^ 31) (sign-off false m e F) (mod-lt (toBits binary32 (fin false m e)) (pow-pos 31))
 
-whole-stays : (y : Float) (w : ℕ) → w ≤ 2 ^ 23 → T (fits binary32 y) → HasValue y false w 1 → ofBits binary32 (evened (toBits binary32 y)) ≡ y
-whole-stays y w W F v =
+whole-evened : (y : Float) (w : ℕ) → w ≤ 2 ^ 23 → T (fits binary32 y) → HasValue y false w 1 → ofBits binary32 (evened (toBits binary32 y)) ≡ y
+whole-evened y w W F v =
     let back = ofBits-toBits binary32 y F in
     ap (ofBits binary32)
     (even-stays (toBits binary32 y)
@@ -137,7 +137,7 @@ pub size-evens : (m : ℕ) (e : ℤ) → T (fits binary32 (fin false m e)) → m
 size-evens m e F h =
     elim (decLt (2 ^ 22 * down e) (m * up e)) [
       | yes l ↦ subst (Evens x) (sym (middle-stays binary32 m e F l h)) (evens x x (m * up e) (down e) F (refl, refl) (halves m e F l h))
-      | no l ↦ subst (Evens x) (sym (middle-rounds binary32 m e F (omega arith))) (evens x r q 1 (even-fits x) v (whole-stays r q (few (omega arith)) (even-fits x) v))
+      | no l ↦ subst (Evens x) (sym (middle-rounds binary32 m e F (omega arith))) (evens x r q 1 (even-fits x) v (whole-evened r q (few (omega arith)) (even-fits x) v))
     ]
   where
     x : Float

@@ -43,7 +43,7 @@ pub below-top : (x : Float) → le x top ≡ true → le bottom x ≡ true → B
 unfolding ofBits neg
 below-top x hi lo = between-below 23 x (holds lo) (holds hi)
 
--- and so does its size
+-- its size lies there too
 pub size-below : (x : Float) → Below 23 x → Below 23 (absOf x)
 size-below nan h = h
 size-below (inf s) h = h

@@ -1,4 +1,4 @@
--- Near 2 ^ (prec - 1) a format has whole numbers only, so a sum there rounds to the closest one: the ground of rounding to a whole
+-- Near 2 ^ (prec - 1) a format has whole numbers only, so a sum or a difference there rounds to the closest one: the ground of rounding to a whole
 -- number by adding and taking away. And what `roundEven` gives is that whole number, exactly. Assumes nothing.
 use mathlib.Core.Path.{_≡_, refl, sym, _∙_, ap, subst}
 use mathlib.Core.Bool.{Bool, true, false, true≢false}
