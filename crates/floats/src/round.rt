@@ -11,8 +11,8 @@ const WHOLE_FROM: f32 = 8388608.0;
 // 3 * 2^22, halfway from 2^23 to 2^24.
 const ROUNDING_MAGIC: f32 = 12582912.0;
 
-// Up to a size of 2^22 the inner difference lies from 2^23 to 2^24, where f32 has whole numbers only, and so it rounds to one; past 2^22
-// it is exact. Then the last bit counts halves, and a half goes to the even whole number; a whole number has that bit clear, and stays.
+// Up to a size of 2^22 the inner difference, 12582912 added to minus the size, lies from 2^23 to 2^24, where f32 has whole numbers only: it rounds
+// to one. Past 2^22 it is exact; there the last bit counts halves, and a half goes to the even whole number. A whole number has it clear, and stays.
 fn whole_size(size: f32) -> f32
     requires { ⌜ (absOf size ≡ size) × (le size (f32 0x4b00_0000) ≡ true) ⌝ }
     ensures { λ r. ⌜ r ≡ roundEven binary32 size ⌝ }
