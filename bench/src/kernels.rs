@@ -34,16 +34,7 @@ pub const GOAL: f64 = 1.6;
 const GOALS: [&str; 10] = ["exp", "sigmoid", "silu", "tanh", "erf", "gelu", "sin", "cos", "softmax", "quantize"];
 
 fn kernel(name: &'static str, range: (f32, f32), limit: Option<f64>, ours: Call, rust: Call) -> Kernel {
-    Kernel {
-        name,
-        ours,
-        rust,
-        range,
-        bias: 0.5,
-        only: None,
-        limit,
-        goal: GOALS.contains(&name),
-    }
+    Kernel { name, ours, rust, range, bias: 0.5, only: None, limit, goal: GOALS.contains(&name) }
 }
 
 macro_rules! operator {
