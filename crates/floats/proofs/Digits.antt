@@ -12,6 +12,7 @@ use lib.Ieee.Exact.{HasValue, odd-sign}
 use lib.Ieee.Fits.{down-pos}
 use lib.Ieee.Scale.{finite}
 use borrow.Author.Tests.{ne-eqb, lt-leb}
+use Rattle.floats.proofs.Exact.{value-finite}
 
 -- ---- the fraction that a pattern with a clear sign stands for, in units of 2 ^ -149
 module _ (n : ℕ) (N : n < 2 ^ 31) where
@@ -51,11 +52,6 @@ counted k b K lo hi =
     (full-value n (omega arith) k field (ne-eqb (suc k) 255 (λ q. omega arith)))
 
 -- ---- a whole number up to 2 ^ 23 has its last bit clear
-finite-value : (v : Float) (a c : ℕ) → HasValue v false a c → T (finite v)
-finite-value nan a c h = absurd h
-finite-value (inf s) a c h = absurd h
-finite-value (fin s m e) a c h = tt
-
 -- a whole number w in units of 1 / u
 in-units : (v : Float) (a u w : ℕ) → HasValue v false a u → HasValue v false w 1 → a ≡ w * u
 in-units nan a u w h k = absurd h
@@ -106,4 +102,4 @@ module _ (n w : ℕ) (N : n < 2 ^ 31) (v : HasValue (ofBits binary32 n) false w 
       go (suc x) e =
           field x
           (in-units (ofBits binary32 n) ((2 ^ 23 + n % 2 ^ 23) * 2 ^ x) (2 ^ 149) w
-          (full-value n N x e (not-last n N x e (finite-value (ofBits binary32 n) w 1 v))) v)
+          (full-value n N x e (not-last n N x e (value-finite (ofBits binary32 n) false w 1 v))) v)

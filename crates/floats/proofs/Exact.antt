@@ -4,11 +4,11 @@ use mathlib.Core.Path.{_≡_, refl, sym, ap, _∙_, subst}
 use Prim.Native.Nat.{ℕ, zero, suc, _+_, _-_, _*_, _/_, _%_, _^_, _≤_, _<_}
 use native.Mathlib.Nat.{le-of-eq, le-of-suc-le-suc, lt-of-lt-of-le, lt-of-le-of-lt, lt-of-not-le, lt-irrefl, not-le-of-lt, zero-mul, mul-one, one-mul, mul-comm, mul-assoc, mul-right-comm, mul-lt-mul-of-pos-right, lt-of-mul-lt-mul-right, mul-pos, sub-self}
 use native.Mathlib.Omega.{arith}
-use mathlib.Core.Bool.{Bool, true, false, not, _&&_, Bool·beq, cond}
+use mathlib.Core.Bool.{Bool, true, false, not, _&&_, Bool·beq, cond, true≢false}
 use lib.IntN.{ℤ, pos, negsuc}
 use lib.Dec.{T, leb, ltb, eqb, ltb→lt, leb→le}
 use lib.Pow.{pow-add, pow-pos, pow-lt}
-use lib.Ieee.{Float, nan, inf, fin, Format, prec, emax, low, up, down, unlike, hid, top, size, round, sum, add, sub, mul, fits, toBits, ofBits}
+use lib.Ieee.{Float, nan, inf, fin, Format, prec, emax, low, up, down, unlike, hid, top, size, round, sum, add, sub, neg, mul, fits, isNan, toBits, ofBits}
 use lib.Ieee.Digits.{back}
 use lib.Ieee.Fits.{and-l, and-r, round-fits, down-pos}
 use lib.Ieee.Bits.{ofBits-toBits}
@@ -16,11 +16,21 @@ use lib.Ieee.Exact.{HasValue, round-exact}
 use lib.Ieee.Back.{round-whole}
 use lib.Ieee.Nearest.{div-same}
 use lib.Ieee.Scale.{finite, round-same}
+use borrow.Author.Tests.{le-ltb, lt-ltb}
 use Rattle.floats.specs.Fraction.{frac}
-use Rattle.floats.proofs.Numbers.{spread}
-use Rattle.floats.proofs.Sign.{round-zero}
+use Rattle.floats.proofs.Numbers.{spread, ltb-times, sub-mul}
+use Rattle.floats.proofs.Sign.{finite-number, round-zero}
 use Rattle.floats.proofs.Signed.{Rounds}
 use Rattle.floats.proofs.Monotone.{mul-comm-f}
+
+-- what equals a fraction is finite, so no NaN
+pub value-finite : (x : Float) (s : Bool) (a c : ℕ) → HasValue x s a c → T (finite x)
+value-finite nan s a c h = absurd h
+value-finite (inf t) s a c h = absurd h
+value-finite (fin t m e) s a c h = tt
+
+pub value-number : (x : Float) (s : Bool) (a c : ℕ) → HasValue x s a c → T (not (isNan x))
+value-number x s a c h = finite-number x (value-finite x s a c h)
 
 -- ---- the bit pattern of a value, from any fraction a / c that it equals
 abbrev pattern : Format → Bool → ℕ → ℕ
@@ -159,6 +169,55 @@ add-same f (fin t m e) (fin u n d) s a b c C h k =
         let u1 = simp spread at (ap (λ (z : ℕ). z * q) u) in
         let v1 = simp spread at (ap (λ (z : ℕ). z * p) v) in
         simp spread (omega arith)
+
+-- ---- a difference of two values without a sign, likewise
+pub sub-same : (f : Format) (x y : Float) (a b c : ℕ) → 0 < c → HasValue x false a c → HasValue y false b c
+    → sub f x y ≡ cond (ltb a b) (round f true (b - a) c) (round f false (a - b) c)
+unfolding sub add neg sum
+sub-same f nan y a b c C h k = absurd h
+sub-same f (inf t) y a b c C h k = absurd h
+sub-same f (fin true m e) y a b c C h k = absurd (true≢false (h .0))
+sub-same f (fin false m e) nan a b c C h k = absurd k
+sub-same f (fin false m e) (inf u) a b c C h k = absurd k
+sub-same f (fin false m e) (fin true n d) a b c C h k = absurd (true≢false (k .0))
+sub-same f (fin false m e) (fin false n d) a b c C h k =
+    rw same (go (ltb a b))
+  where
+    A : ℕ
+    A = m * up e * down d
+
+    B : ℕ
+    B = n * up d * down e
+
+    D : ℕ
+    D = down e * down d
+
+    over : 0 < D
+    over = mul-pos (down-pos e) (down-pos d)
+
+    p : A * c ≡ a * D
+    p = mul-right-comm (m * up e) (down d) c ∙ ap (λ z. z * down d) (h .1) ∙ mul-assoc a (down e) (down d)
+
+    q : B * c ≡ b * D
+    q = mul-right-comm (n * up d) (down e) c ∙ ap (λ z. z * down e) (k .1) ∙ mul-right-comm b (down d) (down e) ∙ mul-assoc b (down e) (down d)
+
+    same : ltb A B ≡ ltb a b
+    same = sym (ltb-times A B c C) ∙ ap (λ z. ltb z (B * c)) p ∙ ap (ltb (a * D)) q ∙ ltb-times a b D over
+
+    go : (t : Bool) → cond t (round f true (B - A) D) (round f false (A - B) D) ≡ cond t (round f true (b - a) c) (round f false (a - b) c)
+    go true = round-same f true (B - A) D (b - a) c over C (sub-mul B A c ∙ rw (p, q) (sym (sub-mul b a D)))
+    go false = round-same f false (A - B) D (a - b) c over C (sub-mul A B c ∙ rw (p, q) (sym (sub-mul a b D)))
+
+module _ (f : Format) (x y : Float) (a b c : ℕ) (C : 0 < c) (h : HasValue x false a c) (k : HasValue y false b c) where
+  abbrev by : Bool → Float
+  by t = cond t (round f true (b - a) c) (round f false (a - b) c)
+
+  -- the lesser taken from the larger, and the larger from the lesser
+  pub sub-lesser : b ≤ a → sub f x y ≡ round f false (a - b) c
+  sub-lesser l = sub-same f x y a b c C h k ∙ ap by (le-ltb a b l)
+
+  pub sub-larger : a < b → sub f x y ≡ round f true (b - a) c
+  sub-larger l = sub-same f x y a b c C h k ∙ ap by (lt-ltb a b l)
 
 -- whole numbers add exactly as long as the sum is one that the format counts
 pub add-whole : (f : Format) (x y : Float) (s : Bool) (i j : ℕ) → HasValue x s i 1 → HasValue y s j 1 → i + j ≤ 2 ^ prec f

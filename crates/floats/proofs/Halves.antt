@@ -18,11 +18,11 @@ use lib.Ieee.Fits.{round-fits, down-pos}
 use lib.Ieee.Nearest.{closest, closest-same, closest-mono}
 use Rattle.floats.specs.Floats.{roundEven}
 use Rattle.floats.proofs.Digits.{counted, last-clear}
-use Rattle.floats.proofs.Exact.{value-unique}
+use Rattle.floats.proofs.Exact.{value-unique, value-number}
 use Rattle.floats.proofs.Middle.{middle, digit, middle-rounds, middle-stays}
 use Rattle.floats.proofs.Near.{closest-by}
 use Rattle.floats.proofs.Pattern.{sign-off}
-use Rattle.floats.proofs.Scaled.{even-fits, value-number}
+use Rattle.floats.proofs.Scaled.{even-fits}
 use Rattle.floats.proofs.Whole.{rescale, round-even-value}
 
 -- a pattern with the last bit cleared, moved up first where the last but one is set

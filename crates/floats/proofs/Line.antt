@@ -17,10 +17,10 @@ use borrow.Author.Tests.{lt-ltb, le-leb}
 use Rattle.floats.specs.Fraction.{frac, _⊑_}
 use Rattle.floats.specs.Words.{subWord, truncWord}
 use Rattle.floats.proofs.Digits.{counted}
-use Rattle.floats.proofs.Exact.{down-low}
+use Rattle.floats.proofs.Exact.{down-low, value-number, sub-lesser, sub-larger}
 use Rattle.floats.proofs.Order.{finite-between}
 use Rattle.floats.proofs.Signed.{le→⊑}
-use Rattle.floats.proofs.Whole.{unscale, sub-back, sub-past}
+use Rattle.floats.proofs.Whole.{unscale}
 
 -- x is a whole number of 24 digits
 pub record OnLine (x : Float) : Type 0 where
@@ -51,12 +51,7 @@ on-line x F lo hi =
 module _ (x : Float) (o : OnLine x) where
   -- it is no NaN
   pub line-number : T (not (isNan x))
-  line-number = go x (o .is)
-    where
-      go : (x : Float) → HasValue x false (o .at) 1 → T (not (isNan x))
-      go nan v = absurd v
-      go (inf t) v = absurd v
-      go (fin t m e) v = unfold isNan in tt
+  line-number = value-number x false (o .at) 1 (o .is)
 
   -- its pattern
   pub line-bits : T (fits binary32 x) → toBits binary32 x ≡ 0x4a80_0000 + o .at
@@ -75,7 +70,7 @@ module _ (x : Float) (o : OnLine x) where
       back : 12582912 ≤ o .at → subWord (toBits binary32 x) 0x4b40_0000 ≡ truncWord (sub binary32 x (fin false 3 (pos 22)))
       back h =
           let n = o .at - 3 * 2 ^ 22 in
-          let j : sub binary32 x (fin false 3 (pos 22)) ≡ ofInt binary32 (pos n) = sub-back binary32 x (o .at) 3 22 (o .is) h in
+          let j : sub binary32 x (fin false 3 (pos 22)) ≡ ofInt binary32 (pos n) = sub-lesser binary32 x (fin false 3 (pos 22)) (o .at) (3 * 2 ^ 22) 1 (lit< tt) (o .is) (refl, refl) h in
           let few = subst T (sym (le-leb n (2 ^ 24) (omega arith))) tt in
           let k : toSigned 31 (ofInt binary32 (pos n)) ≡ pos n = positive-back binary32 31 n few (omega arith) .1 in
           rw (j, k) (omega (arith, line-bits F))
@@ -85,7 +80,7 @@ module _ (x : Float) (o : OnLine x) where
           let n = 3 * 2 ^ 22 - suc (o .at) in
           let z : 3 * 2 ^ 22 - o .at ≡ suc n = omega arith in
           let j : sub binary32 x (fin false 3 (pos 22)) ≡ ofInt binary32 (negsuc n) =
-          sub-past binary32 x (o .at) 3 22 (o .is) h ∙ ap (λ i. round binary32 true i 1) z in
+          sub-larger binary32 x (fin false 3 (pos 22)) (o .at) (3 * 2 ^ 22) 1 (lit< tt) (o .is) (refl, refl) h ∙ ap (λ i. round binary32 true i 1) z in
           let few = subst T (sym (lt-ltb n (2 ^ 24) (omega arith))) tt in
           let k : toSigned 31 (ofInt binary32 (negsuc n)) ≡ negsuc n = negative-back binary32 31 n few (omega arith) .1 in
           rw (j, k) (omega (arith, line-bits F))

@@ -15,8 +15,8 @@ use lib.Ieee.Fits.{down-pos, reach}
 use lib.Ieee.Nearest.{closest, closest-mono}
 use Rattle.floats.specs.Floats.{roundEven}
 use Rattle.floats.proofs.Near.{closest-exact}
-use Rattle.floats.proofs.Exact.{round-self, down-low}
-use Rattle.floats.proofs.Whole.{whole-value, closest-less, less}
+use Rattle.floats.proofs.Exact.{round-self, down-low, sub-lesser}
+use Rattle.floats.proofs.Whole.{whole-value, closest-less}
 
 -- 3 * 2 ^ (prec - 2)
 abbrev pub middle : Format → Float
@@ -58,8 +58,12 @@ module _ (f : Format) (m : ℕ) (e : ℤ) (F : T (fits f (fin false m e))) where
   abbrev p : ℕ
   p = 2 ^ (prec f - 2)
 
+  -- it less n / d
+  from-middle : (y : Float) (n d : ℕ) → 0 < d → HasValue y false n d → n ≤ 3 * p * d → sub f (middle f) y ≡ round f false (3 * p * d - n) d
+  from-middle y n d D v h = sub-lesser f (middle f) y (3 * p * d) n d D (refl, sym (mul-one (3 * p * d))) v h
+
   inner : m * up e ≤ 3 * p * down e → sub f (middle f) x ≡ round f false (3 * p * down e - m * up e) (down e)
-  inner h = less f x (m * up e) (down e) 3 (prec f - 2) (down-pos e) (refl, refl) h
+  inner h = from-middle x (m * up e) (down e) (down-pos e) (refl, refl) h
 
   pub middle-rounds : m * up e ≤ p * down e → sub f (middle f) (sub f (middle f) x) ≡ roundEven f x
   unfolding roundEven
@@ -76,7 +80,7 @@ module _ (f : Format) (m : ℕ) (e : ℤ) (F : T (fits f (fin false m e))) where
       subst (λ z. HasValue z false (3 * p - q) 1) (sym (inner (omega arith)))
       (subst (λ z. HasValue (round f false (3 * p * d - a) d) false z 1) (closest-less a d (3 * p) (down-pos e) (even f) (omega arith))
       (whole-value f (3 * p * d - a) d (down-pos e) (omega arith) (omega arith) false)) in
-      less f (sub f (middle f) x) (3 * p - q) 1 3 (prec f - 2) (lit< tt) v (omega arith)
+      from-middle (sub f (middle f) x) (3 * p - q) 1 (lit< tt) v (omega arith)
       ∙ ap (λ z. round f false z 1) (omega arith)
 
   -- with at most one digit past the point, as past 2 ^ (prec - 2), the difference loses none
@@ -99,7 +103,7 @@ module _ (f : Format) (m : ℕ) (e : ℤ) (F : T (fits f (fin false m e))) where
       let g = place f d (digit f m e F h) in
       let c = mul-le-mul-left p (g .0) in
       let o = whole f 1 in
-      less f (sub f (middle f) x) n d 3 (prec f - 2) (down-pos e)
+      from-middle (sub f (middle f) x) n d (down-pos e)
       (subst (λ z. HasValue z false n d) (sym (inner (omega arith))) (exact (g .1 .0) n (g .1 .1) (omega arith) (g .1 .2))) (omega arith)
       ∙ ap (λ z. round f false z d) (omega arith)
       ∙ round-self f false m e F

@@ -27,7 +27,7 @@ cmp a b = go (compare a b) (leb→le a b) (nleb→lt a b) (eqb→eq a b) eq→eq
     go Ordering·eq h k e n = e tt
     go Ordering·gt h k e n = k tt
 
--- of what is left of b, in the place of a
+-- the other way round
 abbrev pub flip : Ordering → Ordering
 flip Ordering·lt = Ordering·gt
 flip Ordering·eq = Ordering·eq

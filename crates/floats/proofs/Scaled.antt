@@ -1,6 +1,6 @@
 -- A value at most 1 times a power of two is exact; a value rounded to a whole number; a whole number, cast. Assumes nothing.
 use mathlib.Core.Path.{_≡_, refl, sym, ap, _∙_, subst}
-use mathlib.Core.Bool.{Bool, true, false, not, _&&_, true≢false}
+use mathlib.Core.Bool.{true, false, not, _&&_, true≢false}
 use Prim.Native.Nat.{ℕ, zero, suc, _+_, _*_, _^_, _≤_, _<_}
 use native.Mathlib.Nat.{zero-mul, mul-one, one-mul, mul-assoc, mul-comm, mul-right-comm, le-of-eq, le-trans, lt-of-le-of-lt, mul-le-mul-right, le-of-mul-le-mul-right}
 use native.Mathlib.Omega.{arith}
@@ -14,7 +14,7 @@ use lib.Ieee.Fits.{and-i, down-pos, nan-fits, inf-fits, round-fits, fits-widens}
 use lib.Ieee.Nearest.{closest, closest-same}
 use borrow.Author.Tests.{le-leb}
 use Rattle.floats.specs.Floats.{roundEven}
-use Rattle.floats.proofs.Exact.{down-low, expo}
+use Rattle.floats.proofs.Exact.{down-low, expo, value-number}
 use Rattle.floats.proofs.Sign.{round-zero}
 use Rattle.floats.proofs.Whole.{round-even-value}
 
@@ -73,12 +73,6 @@ pub record Casts (x : Float) (n : ℕ) : Type 0 where
   pub wide : T (fits binary64 x && not (isNan x))
   pub whole : T (inUnsigned binary64 32 x)
   pub is : toUnsigned 32 x ≡ n
-
-pub value-number : (x : Float) (s : Bool) (a c : ℕ) → HasValue x s a c → T (not (isNan x))
-unfolding isNan
-value-number nan s a c v = absurd v
-value-number (inf t) s a c v = absurd v
-value-number (fin t m e) s a c v = tt
 
 pub casts : (x : Float) (n : ℕ) → n < 2 ^ 32 → T (fits binary32 x) → HasValue x false n 1 → Casts x n
 unfolding ofInt inFloat

@@ -1,30 +1,26 @@
 -- Near 2 ^ (prec - 1) a format has whole numbers only, so a sum or a difference there rounds to the closest one: the ground of rounding to a whole
 -- number by adding and taking away. And what `roundEven` gives is that whole number, exactly. Assumes nothing.
 use mathlib.Core.Path.{_≡_, refl, sym, _∙_, ap, subst}
-use mathlib.Core.Bool.{Bool, true, false, true≢false}
+use mathlib.Core.Bool.{Bool}
 use Prim.Native.Nat.{ℕ, zero, suc, _+_, _-_, _*_, _/_, _%_, _^_, _<_, _≤_, compare, Ordering, Ordering·lt, Ordering·eq, Ordering·gt}
-use native.Mathlib.Nat.{mul-one, mul-assoc, mul-right-comm, mul-comm, mul-pos, le-trans, le-of-eq, lt-of-lt-of-le, lt-of-le-of-lt, le-antisymm, not-le-of-lt, lt-of-not-le, mul-le-mul-right, mul-lt-mul-of-pos-right, div-lt-iff-lt-mul, mul-sub, le-div-iff-mul-le, eq-of-mul-eq-mul-right, add-mul-div-right, add-mul-mod-self-right, div-eq-of-lt, mod-eq-of-lt, mod-lt, add-comm, zero-add, div-add-mod', lt-of-mul-lt-mul-right, le-of-mul-le-mul-right, add-mul, suc-mul, one-mul}
+use native.Mathlib.Nat.{mul-one, mul-assoc, mul-right-comm, mul-comm, mul-pos, le-trans, le-of-eq, lt-of-lt-of-le, lt-of-le-of-lt, le-antisymm, not-le-of-lt, lt-of-not-le, mul-le-mul-right, mul-lt-mul-of-pos-right, div-lt-iff-lt-mul, le-div-iff-mul-le, eq-of-mul-eq-mul-right, add-mul-div-right, add-mul-mod-self-right, div-eq-of-lt, mod-eq-of-lt, mod-lt, add-comm, zero-add, div-add-mod', lt-of-mul-lt-mul-right, add-mul, suc-mul}
 use native.Mathlib.Omega.{arith}
 use lib.Dec.{T, lit<}
 use lib.IntN.{ℤ, pos, negsuc}
 use lib.Pow.{pow-add, pow-pos, pow-mono, pow-lt, shr-le}
-use lib.Ieee.{Float, nan, inf, fin, Format, binary32, binary64, prec, emax, low, up, down, size, nearest, units, round, add, sub, sum, neg, fits}
+use lib.Ieee.{Float, nan, inf, fin, Format, binary32, binary64, prec, emax, low, up, down, size, nearest, units, round, fits}
 use lib.Ieee.Back.{round-whole}
 use lib.Ieee.Digits.{size-lt, size-le}
 use lib.Ieee.Exact.{HasValue, units-val}
 use lib.Ieee.Fits.{round-is, down-pos, nearest-le}
 use lib.Ieee.Nearest.{closest, closest-same}
 use lib.Ieee.Scale.{round-same}
-use borrow.Author.Tests.{le-ltb, lt-ltb}
 use Rattle.floats.specs.Floats.{roundEven}
 use Rattle.floats.proofs.Near.{Cmp, cmp, flip, closest-by, closest-exact}
 use Rattle.floats.proofs.Exact.{round-self, down-low}
+use Rattle.floats.proofs.Numbers.{sub-mul}
 
--- 2 ^ (prec - 1) twice, and room above it
-half-top : (f : Format) → 2 ^ prec f ≡ 2 * 2 ^ (prec f - 1)
-half-top binary32 = refl
-half-top binary64 = refl
-
+-- room above 2 ^ prec
 reach : (f : Format) → prec f < suc (emax f)
 reach binary32 = lit< tt
 reach binary64 = lit< tt
@@ -97,9 +93,6 @@ module _ (f : Format) (n d : ℕ) (D : 0 < d) (lo : 2 ^ (prec f - 1) * d ≤ n) 
           (subst (λ z. 2 ^ prec f * 2 ^ low f < z) (sym (pow-add 2 (low f) (suc (emax f)) ∙ mul-comm (2 ^ low f) (2 ^ suc (emax f))))
           (mul-lt-mul-of-pos-right (pow-lt (reach f)) (pow-pos (low f))))
 
-sub-mul : (a b c : ℕ) → (a - b) * c ≡ a * c - b * c
-sub-mul a b c = mul-comm (a - b) c ∙ mul-sub c a b ∙ rw (mul-comm c a, mul-comm c b)
-
 -- ---- the closest whole number to w - n / d, for an even w
 at : (q r d : ℕ) → 0 < d → r < d → (o : Ordering) → Cmp o (r * 2) d → closest (r + q * d) d ≡ nearest q o
 at q r d D h o c =
@@ -140,54 +133,6 @@ closest-less n d w D h l =
         ∙ at v (d - suc r) d D (omega arith) (flip o) (other (suc r) o (omega arith) k c)
         ∙ turned q v o e
         ∙ ap (λ z. w - z) (sym (at q (suc r) d D k o c))
-
--- ---- a whole number less another, a * 2 ^ k
-taken : (a b q w d : ℕ) → a ≡ q * d → b ≡ w * d → (a - b) * 1 ≡ (q - w) * (d * 1)
-taken a b q w d e g = mul-one (a - b) ∙ rw (e, g, mul-one) (sym (sub-mul q w d))
-
-pub sub-back : (f : Format) (x : Float) (q a k : ℕ) → HasValue x false q 1 → a * 2 ^ k ≤ q
-    → sub f x (fin false a (pos k)) ≡ round f false (q - a * 2 ^ k) 1
-unfolding sub add neg sum
-sub-back f nan q a k v h = absurd v
-sub-back f (inf t) q a k v h = absurd v
-sub-back f (fin true m e) q a k v h = absurd (true≢false (v .0))
-sub-back f (fin false m e) q a k v h =
-    let A = m * up e * 1 in
-    let B = a * 2 ^ k * down e in
-    simp (le-ltb A B (subst (λ (z : ℕ). B ≤ z) (sym (v .1)) (mul-le-mul-right (down e) h)))
-    (round-same f false (A - B) (down e * 1) (q - a * 2 ^ k) 1 (mul-pos (down-pos e) (lit< tt)) (lit< tt)
-    (taken A B q (a * 2 ^ k) (down e) (v .1) refl))
-
-pub sub-past : (f : Format) (x : Float) (q a k : ℕ) → HasValue x false q 1 → q < a * 2 ^ k
-    → sub f x (fin false a (pos k)) ≡ round f true (a * 2 ^ k - q) 1
-unfolding sub add neg sum
-sub-past f nan q a k v h = absurd v
-sub-past f (inf t) q a k v h = absurd v
-sub-past f (fin true m e) q a k v h = absurd (true≢false (v .0))
-sub-past f (fin false m e) q a k v h =
-    let A = m * up e * 1 in
-    let B = a * 2 ^ k * down e in
-    simp (lt-ltb A B (subst (λ (z : ℕ). z < B) (sym (v .1)) (mul-lt-mul-of-pos-right h (down-pos e))))
-    (round-same f true (B - A) (down e * 1) (a * 2 ^ k - q) 1 (mul-pos (down-pos e) (lit< tt)) (lit< tt)
-    (taken B A (a * 2 ^ k) q (down e) refl (v .1)))
-
--- ---- a whole number, w = a * 2 ^ k, less any fraction up to it
-pub less : (f : Format) (y : Float) (n c a k : ℕ) → 0 < c → HasValue y false n c → n ≤ a * 2 ^ k * c
-    → sub f (fin false a (pos k)) y ≡ round f false (a * 2 ^ k * c - n) c
-unfolding sub add neg sum
-less f nan n c a k C v h = absurd v
-less f (inf t) n c a k C v h = absurd v
-less f (fin true m e) n c a k C v h = absurd (true≢false (v .0))
-less f (fin false m e) n c a k C v h =
-    let w = a * 2 ^ k in
-    let D = down e in
-    let same : m * up e * 1 * c ≡ n * D = ap (λ z. z * c) (mul-one (m * up e)) ∙ v .1 in
-    let under : m * up e * 1 ≤ w * D =
-    le-of-mul-le-mul-right (le-trans (le-of-eq same) (le-trans (mul-le-mul-right D h) (le-of-eq (mul-right-comm w c D)))) C in
-    simp (le-ltb (w * D) (m * up e * 1) under)
-    (round-same f false (w * D - m * up e * 1) (1 * D) (w * c - n) c (mul-pos (lit< tt) (down-pos e)) C
-    (sub-mul (w * D) (m * up e * 1) c
-    ∙ rw (same, one-mul, sub-mul (w * c) n D) (ap (λ z. z - n * D) (mul-right-comm w D c))))
 
 -- ---- `roundEven`
 -- a whole number stays as it is

@@ -5,11 +5,11 @@ use mathlib.Core.List.{List, [], _∷_, foldl}
 use Prim.Native.Nat.{ℕ, zero, suc, _+_, _^_, _≤_}
 use native.Mathlib.Nat.{add-zero, not-suc-le-zero, le-of-suc-le-suc}
 use native.Mathlib.Omega.{arith}
-use mathlib.Core.Bool.{Bool, false}
+use mathlib.Core.Bool.{false}
 use lib.Dec.{T}
 use lib.ListN.{length}
 use lib.Pow.{pow-pos}
-use lib.Ieee.{Float, nan, inf, fin, binary32, round, add, le, ofBits}
+use lib.Ieee.{Float, binary32, round, add, le, ofBits}
 use lib.Ieee.Back.{round-whole}
 use lib.Ieee.Exact.{HasValue}
 use lib.Ieee.Scale.{finite}
@@ -17,7 +17,7 @@ use Rattle.floats.specs.Values.{zeroF, oneF}
 use Rattle.floats.proofs.Sign.{finite-number}
 use Rattle.floats.proofs.Order.{le-trans-f, le-refl-f}
 use Rattle.floats.proofs.Monotone.{add-mono}
-use Rattle.floats.proofs.Exact.{add-same}
+use Rattle.floats.proofs.Exact.{value-finite, add-same}
 use Rattle.floats.specs.Each.{Each, Some}
 use Rattle.floats.proofs.Each.{each-first, each-rest}
 use Rattle.floats.specs.Between.{Between}
@@ -28,11 +28,6 @@ use Rattle.softmax_facts.specs.SoftmaxFacts.{countF}
 
 pub count-value : (n : ℕ) → n ≤ 2 ^ 24 → HasValue (countF n) false n 1
 count-value n h = round-whole binary32 false n h
-
-value-finite : (x : Float) (s : Bool) (a c : ℕ) → HasValue x s a c → T (finite x)
-value-finite nan s a c h = absurd h
-value-finite (inf t) s a c h = absurd h
-value-finite (fin t m e) s a c h = tt
 
 pub count-finite : (n : ℕ) → n ≤ 2 ^ 24 → T (finite (countF n))
 count-finite n h = value-finite (countF n) false n 1 (count-value n h)
