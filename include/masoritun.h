@@ -139,7 +139,7 @@ uint64_t mst_quantize(float inv_scale, uint8_t zero_point, const float *src, siz
 /* ---- Split */
 
 /* Gains of 1 to 16 bands that add up to exactly 32768; no whole numbers with that total lie nearer to the exact shares of the
-   softmax weights (in steps of 2^-24), and equal remainders favour the lower band. The domain is finite or minus infinity
+   softmax weights (in steps of 2^-30), and equal remainders favour the lower band. The domain is finite or minus infinity
    (masked: gain 0). Refuses 7 (n outside 1..16), 1 (m is not n), 4, 5 (all masked). */
 uint64_t mst_split(const float *levels, size_t n, uint16_t *gains, size_t m);
 

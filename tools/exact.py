@@ -125,9 +125,12 @@ def weights(levels):
     return [rounded(e * part) for e in exps]
 
 
-# document 01, "Split"
+# document 01, "Split", in the steps of request L6
+STEPS = 2**30
+
+
 def gains(levels):
-    steps = [whole(w * 2**24) for w in weights(levels)]
+    steps = [whole(w * STEPS) for w in weights(levels)]
     total = sum(steps)
     out = [32768 * a // total for a in steps]
     rests = sorted(range(len(steps)), key=lambda i: (-(32768 * steps[i] % total), i))

@@ -36,6 +36,10 @@ def cases():
     yield 2, [0xFF7FFFFF, MINUS_INF]
     yield 3, [0x7F7FFFFF, 0x7F7FFFFF, 0]
     yield 3, [0, 0xC2AF58A3, 0xC2AF58A4]
+    # -0.27 beside 0, and 0 beside -4.99: a tie in steps of 2^-24, none in finer ones
+    for level in 0xBE8A3D71, 0xC09FAE14:
+        yield 2, [level, 0]
+        yield 2, [0, level]
     # one level far above the others, by less and less
     for k in range(1, 26):
         yield 4, [0, 0xBF000000 + (k << 20), 0xBF000000 + (k << 20), MINUS_INF]

@@ -6,7 +6,7 @@ use crate::refusal::Refusal;
 
 /// Gains of 1 to 16 bands from their levels: whole parts of [`PARTS`](crate::PARTS) that add up to exactly 32768.
 ///
-/// The softmax weights are taken in steps of 2^-24; the parts left over go one each to the largest remainders, equal remainders to
+/// The softmax weights are taken in steps of 2^-30; the parts left over go one each to the largest remainders, equal remainders to
 /// the lower band. No list of whole numbers with that total lies nearer to the exact shares. Domain: finite or minus infinity
 /// (masked).
 ///

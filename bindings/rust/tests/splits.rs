@@ -28,6 +28,16 @@ fn shares(levels: &[f32]) -> Vec<f64> {
     weights.iter().map(|w| PARTS as f64 * w / total).collect()
 }
 
+/// The share of the first is a little below a half past 14185; in steps of 2^-24 it would be the half, and the lower band ahead.
+#[test]
+fn steps_are_fine() {
+    let mut gains = [0; 2];
+    assert_eq!(split(&[-0.27, 0.0], &mut gains), Ok(()));
+    assert_eq!(gains, [14185, 18583]);
+    let share = shares(&[-0.27, 0.0])[0];
+    assert!(14185.4 < share && share < 14185.5, "{share}");
+}
+
 #[test]
 fn gains_add_up_and_lie_by_their_shares() {
     let mut random = Random(10);

@@ -3,7 +3,7 @@ pub const ELEMENT_LIMIT: usize = 16384;
 
 pub const PARTS: usize = 32768;
 
-pub const STEPS: f32 = 16777216.0;
+pub const STEPS: f32 = 1073741824.0;
 
 pub const BAND_LIMIT: usize = 16;
 

@@ -1,6 +1,6 @@
 -- A test as a number: `lt1 a b` is 1 where a < b, else 0. Assumes nothing.
 use Prim.Native.Nat.{ℕ, _+_, _≤_, _<_}
-use mathlib.Core.Path.{_≡_, refl, ap}
+use mathlib.Core.Path.{_≡_, refl, sym, ap, _∙_}
 use mathlib.Core.Bool.{Bool, true, false}
 use native.Mathlib.Omega.{arith}
 use borrow.Author.Tests.{ltb-true, ltb-false}
@@ -27,3 +27,6 @@ lt1-small a b = by-lt a b (λ p e. omega arith) (λ p e. omega arith)
 
 pub lt1-mono : (a b a′ b′ : ℕ) → b + a′ ≤ b′ + a → lt1 a b ≤ lt1 a′ b′
 lt1-mono a b a′ b′ h = by-lt a b (λ p e. omega (arith, lt1-yes {a = a′} {b = b′} (omega arith))) (λ p e. omega arith)
+
+pub lt1-same : (a b a′ b′ : ℕ) → (a < b → a′ < b′) → (b ≤ a → b′ ≤ a′) → lt1 a b ≡ lt1 a′ b′
+lt1-same a b a′ b′ y n = by-lt a b (λ p e. e ∙ sym (lt1-yes (y p))) (λ p e. e ∙ sym (lt1-no (n p)))

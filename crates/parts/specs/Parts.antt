@@ -1,6 +1,5 @@
 -- N parts over the bands of a list of whole numbers, in the shares of its numbers (RULES, Split). Definitions only.
-use Prim.Native.Nat.{ℕ, _+_, _-_, _*_, _/_, _%_, _≤_, _<_}
-use mathlib.Core.Path.{_≡_}
+use Prim.Native.Nat.{ℕ, _+_, _-_, _*_, _/_, _%_}
 use mathlib.Core.Bool.{Bool, true, false, _||_, _&&_}
 use mathlib.Core.List.{List}
 use lib.Dec.{ltb, eqb}
@@ -60,17 +59,10 @@ module _ (N : ℕ) (a : List ℕ) where
   distanceOver g = sumTo (λ i. apart (total a * at g i) (N * at a i)) (length a)
 
 -- ---- for the code
--- band j is ahead of band i, by a list of the remainders
-unfoldable pub aheadIn : List ℕ → ℕ → ℕ → ℕ
-aheadIn rs i j = ahead (at rs i) i (at rs j) j
+-- remainder and band in one number, for up to 64 bands: a band is ahead of another where its key is the larger
+abbrev pub key : ℕ → List ℕ → ℕ → ℕ
+key N a i = 64 * remainder N a i + (63 - i)
 
--- what the loop over the bands has at hand for band i of N parts, which fit 16 bits with one more: the total t, the remainders rs and the
--- parts left over
-pub record Known (N : ℕ) (a : List ℕ) (t : ℕ) (rs : List ℕ) (leftOver i : ℕ) : Type 0 where
-  pub small : N < 65535
-  pub in-range : i < length a
-  pub room : length a ≤ length rs
-  pub sums : t ≡ total a
-  pub some : 0 < t
-  pub remainders : (k : ℕ) → k < length a → at rs k ≡ remainder N a k
-  pub lefts : leftOver ≡ N - sumTo (share N a) (length a)
+-- 1 where the key of band j is above that of band i, by a list of the keys
+unfoldable pub aboveIn : List ℕ → ℕ → ℕ → ℕ
+aboveIn ks i j = lt1 (at ks i) (at ks j)

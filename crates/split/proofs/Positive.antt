@@ -1,9 +1,10 @@
--- The weights of up to 64 levels have steps, so that their total is above 0: the largest exponential is 1, and the sum at most 64. Assumes nothing.
+-- In 64 steps or more to a weight of 1 the weights of up to 64 levels have steps, so that their total is above 0: the largest exponential is 1,
+-- and the sum at most 64. Assumes nothing.
 use mathlib.Core.Path.{_≡_, refl, sym, ap, _∙_, subst}
 use mathlib.Core.Bool.{true, false, true≢false}
 use mathlib.Core.List.{List, map}
 use Prim.Native.Nat.{ℕ, zero, suc, _*_, _≤_, _<_}
-use native.Mathlib.Nat.{zero-mul, mul-one, mul-right-comm, lt-of-lt-of-le, mul-le-mul-right, le-of-mul-le-mul-right}
+use native.Mathlib.Nat.{zero-mul, mul-one, mul-right-comm, lt-of-lt-of-le, mul-le-mul-left, mul-le-mul-right, le-of-mul-le-mul-right}
 use native.Mathlib.Omega.{arith}
 use borrow.Author.Tests.{ne-eqb}
 use lib.Dec.{T, lit<}
@@ -29,9 +30,8 @@ use Rattle.softmax_facts.proofs.Facts.{softmax-facts, exps-length, weights-at, 
 use Rattle.softmax_facts.specs.SoftmaxFacts.{countF}
 use Rattle.softmax_facts.proofs.Sum.{count-finite}
 use Rattle.floats.proofs.Order.{finite-between}
-use Rattle.answer.specs.Limits.{stepCount}
 use Rattle.parts.specs.Parts.{at, total}
-use Rattle.split.specs.Split.{stepsOf, levelSteps}
+use Rattle.split.specs.Split.{stepsOver, levelStepsOver}
 
 -- ---- the reciprocal of what lies from 1 to 64 is 1 / 64 at least
 abbrev leastF : Float
@@ -73,29 +73,32 @@ recip-finite : (s : Float) → Between zeroF oneF (div binary32 oneF s) → T (f
 unfolding ofBits
 recip-finite s b = between-finite zeroF oneF (div binary32 oneF s) tt tt b
 
--- ---- a weight of 1 / 64 at least has steps
-least-steps : (w : Float) → T (finite w) → T (le leastF w) → 0 < stepsOf w
-unfolding stepsOf
-least-steps nan f h = absurd f
-least-steps (inf s) f h = absurd f
-least-steps (fin true m e) f h = absurd (omega (arith, down-pos e, le→⊑ leastF (fin true m e) tt tt h))
-least-steps (fin false m e) f h =
-    lt-of-lt-of-le {m = closest stepCount 64} (lit< tt)
-    (closest-mono stepCount 64 (m * up e * stepCount) (down e) (lit< tt) (down-pos e) (omega (arith, le→⊑ leastF (fin false m e) tt tt h)))
+module _ (count : ℕ) where
+  -- ---- a weight of 1 / 64 at least has steps
+  least-steps : (w : Float) → 64 ≤ count → T (finite w) → T (le leastF w) → 0 < stepsOver count w
+  unfolding stepsOver
+  least-steps nan many f h = absurd f
+  least-steps (inf s) many f h = absurd f
+  least-steps (fin true m e) many f h = absurd (omega (arith, down-pos e, le→⊑ leastF (fin true m e) tt tt h))
+  least-steps (fin false m e) many f h =
+      lt-of-lt-of-le {m = closest 1 1} (lit< tt)
+      (closest-mono 1 1 (m * up e * count) (down e) (lit< tt) (down-pos e)
+      (omega (arith, le→⊑ leastF (fin false m e) tt tt h, mul-le-mul-left (m * up e) many)))
 
--- ---- the steps of a list of weights
-pub steps-length : (w : List Float) → length (map stepsOf w) ≡ length w
-steps-length w = ap length (sym (tab-map stepsOf nan w)) ∙ tab-length (λ k. stepsOf (getD w k nan)) (length w)
+  -- ---- the steps of a list of weights
+  pub steps-length : (w : List Float) → length (map (stepsOver count) w) ≡ length w
+  steps-length w = ap length (sym (tab-map (stepsOver count) nan w)) ∙ tab-length (λ k. stepsOver count (getD w k nan)) (length w)
 
-pub steps-at : (w : List Float) (i : ℕ) → i < length w → at (map stepsOf w) i ≡ stepsOf (getD w i nan)
-steps-at w i h = ap (λ l. getD l i 0) (sym (tab-map stepsOf nan w)) ∙ tab-at (λ k. stepsOf (getD w k nan)) (length w) i 0 h
+  pub steps-at : (w : List Float) (i : ℕ) → i < length w → at (map (stepsOver count) w) i ≡ stepsOver count (getD w i nan)
+  steps-at w i h =
+      ap (λ l. getD l i 0) (sym (tab-map (stepsOver count) nan w)) ∙ tab-at (λ k. stepsOver count (getD w k nan)) (length w) i 0 h
 
-pub level-steps-length : (s : List Float) → length (levelSteps s) ≡ length s
-unfolding levelSteps
-level-steps-length s = steps-length (weightsOf s) ∙ weights-length s
+  pub level-steps-length : (s : List Float) → length (levelStepsOver count s) ≡ length s
+  unfolding levelStepsOver
+  level-steps-length s = steps-length (weightsOf s) ∙ weights-length s
 
 -- ---- the largest weight: 1 times the reciprocal of the sum
-module _ (s : List Float) (I : Input s) (few : length s ≤ 64) where
+module _ (count : ℕ) (many : 64 ≤ count) (s : List Float) (I : Input s) (few : length s ≤ 64) where
   abbrev facts : SoftmaxFacts s
   facts = softmax-facts s I
 
@@ -122,14 +125,14 @@ module _ (s : List Float) (I : Input s) (few : length s ≤ 64) where
       let hi = facts .sum-to-count in
       recip-least sum n (length s) few (facts .count-exact) (finite-between oneF sum n tt (count-finite (length s) (omega arith)) lo hi) lo hi
 
-  top-steps : 0 < at (levelSteps s) i
-  unfolding levelSteps
+  top-steps : 0 < at (levelStepsOver count s) i
+  unfolding levelStepsOver
   top-steps =
-      rw (steps-at (weightsOf s) i (subst (λ n. i < n) (sym (weights-length s)) i-in), top)
-      (least-steps (div binary32 oneF sum) (recip-finite sum (one-over sum (facts .sum-from-one))) top-least)
+      rw (steps-at count (weightsOf s) i (subst (λ n. i < n) (sym (weights-length s)) i-in), top)
+      (least-steps count (div binary32 oneF sum) many (recip-finite sum (one-over sum (facts .sum-from-one))) top-least)
 
-  pub steps-total : 0 < total (levelSteps s)
+  pub steps-total : 0 < total (levelStepsOver count s)
   unfolding total
   steps-total =
-      lt-of-lt-of-le top-steps
-      (sum-term (at (levelSteps s)) (length (levelSteps s)) i (subst (λ n. i < n) (sym (level-steps-length s)) i-in))
+      let a = levelStepsOver count s in
+      lt-of-lt-of-le top-steps (sum-term (at a) (length a) i (subst (λ n. i < n) (sym (level-steps-length count s)) i-in))

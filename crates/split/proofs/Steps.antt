@@ -17,7 +17,7 @@ use Rattle.floats.proofs.Near.{closest-exact}
 use Rattle.floats.proofs.Pattern.{fits-sign}
 use Rattle.floats.proofs.Signed.{le→⊑}
 use Rattle.answer.specs.Limits.{stepPower, stepCount}
-use Rattle.split.specs.Split.{isWeight, stepsOf}
+use Rattle.split.specs.Split.{isWeight, stepsOver, stepsOf}
 
 -- the code's factor
 abbrev pub stepsF : Float
@@ -50,7 +50,7 @@ module _ (m : ℕ) (e : ℤ) (F : T (fits binary32 (fin false m e))) (h : m * up
 -- w is a weight, and r what the code casts
 pub weight-steps : (w r : Float) → T (fits binary32 w) → isWeight w → r ≡ roundEven binary32 (mul binary32 (absOf w) stepsF)
     → Casts r (stepsOf w) × (stepsOf w ≤ stepCount)
-unfolding le ofBits stepsOf
+unfolding le ofBits stepsOver
 weight-steps nan r F b q = absurd (b .0)
 weight-steps (inf true) r F b q = absurd (b .0)
 weight-steps (inf false) r F b q = absurd (b .1)

@@ -15,17 +15,25 @@ use Rattle.floats.specs.Fraction.{frac}
 use Rattle.softmax.specs.Softmax.{firstOutside, allMasked, weightsOf}
 use Rattle.parts.specs.Parts.{gainsOver, distanceOver}
 
--- The weight times 2 ^ 24, exactly, to the nearest whole number, ties to even. (0 for what is negative or not finite, which no weight is.)
-unfoldable pub stepsOf : Float → ℕ
-stepsOf w = closest (frac w .over * stepCount) (frac w .by)
+-- The weight times the number of steps, exactly, to the nearest whole number, ties to even. (0 for what is negative or not finite, which no
+-- weight is.)
+unfoldable pub stepsOver : ℕ → Float → ℕ
+stepsOver count w = closest (frac w .over * count) (frac w .by)
+
+-- in the steps of this release
+abbrev pub stepsOf : Float → ℕ
+stepsOf w = stepsOver stepCount w
 
 -- what every softmax weight is: from 0 to 1
 abbrev pub isWeight : Float → Type 0
 isWeight w = T (le zeroF w) × T (le w oneF)
 
 -- the numbers a of RULES, Split: the softmax weights in steps
-unfoldable pub levelSteps : List Float → List ℕ
-levelSteps levels = map stepsOf (weightsOf levels)
+unfoldable pub levelStepsOver : ℕ → List Float → List ℕ
+levelStepsOver count levels = map (stepsOver count) (weightsOf levels)
+
+abbrev pub levelSteps : List Float → List ℕ
+levelSteps levels = levelStepsOver stepCount levels
 
 -- the gains of the numbers a, and how far a list of gains lies from their exact shares: the sum of |T g - 32768 a|
 abbrev pub gainsOf : List ℕ → List ℕ

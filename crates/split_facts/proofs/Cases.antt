@@ -1,5 +1,5 @@
--- The sums by hand for the split (RULES, Worked), of what the call tells and leaves. Assumes nothing.
-use Prim.Native.Nat.{ℕ}
+-- The sums by hand for the split (RULES, Worked) and what finer steps change, of what the call tells and leaves. Assumes nothing.
+use Prim.Native.Nat.{ℕ, _^_}
 use mathlib.Core.Path.{_≡_, refl, sym, ap, _∙_}
 use mathlib.Core.Bool.{true, false, not}
 use mathlib.Core.List.{List, [], _∷_}
@@ -18,9 +18,9 @@ use Rattle.sum.specs.Sum.{sumFrom}
 use Rattle.softmax.specs.Softmax.{firstOutside, allMasked, maxOf, expsOf, sumOf, weightsOf}
 use Rattle.answer.specs.Limits.{bandLimit}
 use Rattle.parts.specs.Parts.{total, lt1, left, ahead, rank, gain, gainsOver}
-use Rattle.split.specs.Split.{gainsOf, stepsOf, levelSteps, splitAnswer}
+use Rattle.split.specs.Split.{gainsOf, stepsOver, levelStepsOver, levelSteps, splitAnswer}
 use Rattle.split_facts.proofs.Equal.{equal-bands}
-use Rattle.split_facts.specs.SplitFacts.{Splits, Equally}
+use Rattle.split_facts.specs.SplitFacts.{gainsIn, Splits, Finer, Equally}
 
 -- ---- computed: the tests, and the gains
 record Computed (s : List Float) (l : List ℕ) : Type 0 where
@@ -37,11 +37,15 @@ computed {s} {l} c g n =
     let a = gives (skip (c .some) (skip (c .few) (skip lent (skip (c .inside) (skip (c .shown) clear))))) in
     (sym (ap toldOf a), sym (ap (λ a. whenDone a (gainsOf (levelSteps s)) g) a) ∙ c .gains)
 
-far-masked : Computed (zeroF ∷ f32 0xc2c8_0000 ∷ []) (32768 ∷ 0 ∷ [])
+by-sums : Computed (zeroF ∷ f32 0xc2c8_0000 ∷ []) (32768 ∷ 0 ∷ [])
     × Computed (zeroF ∷ inf true ∷ zeroF ∷ []) (16384 ∷ 0 ∷ 16384 ∷ [])
-unfolding ofBits firstNot firstOutside allMasked levelSteps weightsOf sumOf sumFrom expsOf maxOf extremeFrom reducedRangeExpOf stepsOf add sub mul div round lt toSigned gainsOver gain rank left ahead total sumTo tab lt1
-far-masked = (
+    × (gainsIn (2 ^ 24) (f32 0xbe8a_3d71 ∷ zeroF ∷ []) ≡ 14186 ∷ 18582 ∷ [])
+    × Computed (f32 0xbe8a_3d71 ∷ zeroF ∷ []) (14185 ∷ 18583 ∷ [])
+unfolding ofBits firstNot firstOutside allMasked levelStepsOver weightsOf sumOf sumFrom expsOf maxOf extremeFrom reducedRangeExpOf stepsOver add sub mul div round lt toSigned gainsOver gain rank left ahead total sumTo tab lt1
+by-sums = (
   record { some = refl; few = refl; inside = refl; shown = refl; gains = refl },
+  record { some = refl; few = refl; inside = refl; shown = refl; gains = refl },
+  refl,
   record { some = refl; few = refl; inside = refl; shown = refl; gains = refl },
 )
 
@@ -67,7 +71,11 @@ five x F f = equal-bands 5 x (lit≤ tt) (lit≤ tt) F f
 
 -- -100 is 0xc2c80000
 pub far : Splits (zeroF ∷ f32 0xc2c8_0000 ∷ []) (32768 ∷ 0 ∷ [])
-far = computed (far-masked .0)
+far = computed (by-sums .0)
 
 pub masked : Splits (zeroF ∷ inf true ∷ zeroF ∷ []) (16384 ∷ 0 ∷ 16384 ∷ [])
-masked = computed (far-masked .1)
+masked = computed (by-sums .1)
+
+-- -0.27 is 0xbe8a3d71
+pub finer : Finer
+finer = (by-sums .2, computed (by-sums .3))

@@ -11,9 +11,9 @@ use Rattle.floats.specs.Fraction.{frac}
 use Rattle.floats.proofs.Signed.{nonneg-under}
 use Rattle.softmax.specs.Softmax.{weightsOf}
 use Rattle.softmax_facts.proofs.Facts.{softmax-facts}
-use Rattle.answer.specs.Limits.{parts}
+use Rattle.answer.specs.Limits.{parts, stepCount}
 use Rattle.parts.specs.Parts.{total}
-use Rattle.split.specs.Split.{levelSteps}
+use Rattle.split.specs.Split.{levelStepsOver, levelSteps}
 use Rattle.split.proofs.Positive.{steps-at, level-steps-length}
 use Rattle.parts.proofs.Nearest.{gains-length, gains-total, gains-nearest}
 use Rattle.split_facts.specs.SplitFacts.{EveryDemand3}
@@ -24,12 +24,12 @@ unfolding ofBits
 not-below w h = nonneg-under w h
 
 pub demand-3 : EveryDemand3
-unfolding levelSteps
+unfolding levelStepsOver
 demand-3 s g r l L n o =
     let d = levels-split s L g n in
     let e = o .left ∙ d .1 in
     let k = levels-total s L in
-    let m = level-steps-length s in
+    let m = level-steps-length stepCount s in
     let f = softmax-facts s (levels-input s L) in
     record {
       done = told-one r Done (o .told ∙ d .0);
@@ -39,6 +39,6 @@ demand-3 s g r l L n o =
       rounded = λ i h.
           let q = subst (λ n. i < n) (sym (f .same-length)) h in
           let w = getD (weightsOf s) i nan in
-          (not-below w (f .outputs-between i q .0), rw (steps-at (weightsOf s) i q) (steps-near w));
+          (not-below w (f .outputs-between i q .0), rw (steps-at stepCount (weightsOf s) i q) (steps-near w));
       some = k;
     }

@@ -1,5 +1,5 @@
 -- The levels that demand 3 speaks of: what the call tells and leaves of them, and that steps are nearest to the weights. Assumes nothing.
-use Prim.Native.Nat.{_*_, _≤_, _<_}
+use Prim.Native.Nat.{ℕ, _*_, _≤_, _<_}
 use mathlib.Core.Path.{_≡_, refl, sym, ap}
 use mathlib.Core.Bool.{true, false}
 use mathlib.Core.List.{List}
@@ -20,7 +20,7 @@ use Rattle.softmax_facts.proofs.Called.{called}
 use Rattle.softmax_facts.specs.SoftmaxFacts.{Input}
 use Rattle.answer.specs.Limits.{stepCount}
 use Rattle.parts.specs.Parts.{total}
-use Rattle.split.specs.Split.{gainsOf, stepsOf, levelSteps, splitAnswer}
+use Rattle.split.specs.Split.{gainsOf, stepsOver, stepsOf, levelStepsOver, levelSteps, splitAnswer}
 use Rattle.split.proofs.Passed.{lastTests, softmax-rest, past-counts}
 use Rattle.split.proofs.Positive.{steps-total}
 use Rattle.split_facts.specs.SplitFacts.{Levels, Splits}
@@ -49,8 +49,11 @@ module _ (s : List Float) (L : Levels s) where
         unmasked = (u .0, u .1, is-finite (getD s (u .0) nan) (L .numbers (u .0) (u .1) .0) (L .numbers (u .0) (u .1) .1) (u .2));
       }
 
+  pub steps-some : (count : ℕ) → 64 ≤ count → 0 < total (levelStepsOver count s)
+  steps-some count many = steps-total count many s levels-input (le-trans (L .few) (lit≤ tt))
+
   pub levels-total : 0 < total (levelSteps s)
-  levels-total = steps-total s levels-input (le-trans (L .few) (lit≤ tt))
+  levels-total = steps-some stepCount (lit≤ tt)
 
   passes : Done ≡ judged (lastTests s)
   passes = softmax-rest s s Done (L .few) refl (sym (called s levels-input false s refl .told))
@@ -61,7 +64,7 @@ module _ (s : List Float) (L : Levels s) where
       let a = gives (past-counts s g (L .some) (L .few) (sym l) passes) in
       (sym (ap toldOf a), sym (ap (λ a. whenDone a (gainsOf (levelSteps s)) g) a))
 
--- ---- a float's steps are within a half of it times 2 ^ 24
+-- ---- a float's steps are within a half of it times the number of steps
 pub steps-near : (w : Float) → Near (stepsOf w) (frac w .over * stepCount) (frac w .by)
-unfolding stepsOf
+unfolding stepsOver
 steps-near w = near (frac w .over * stepCount) (frac w .by) (by-pos w)

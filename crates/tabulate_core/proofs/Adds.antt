@@ -21,7 +21,7 @@ use Rattle.answer.specs.Answer.{judged}
 use Rattle.answer.specs.declared.Answer.the-variants.{Done}
 use Rattle.answer.proofs.Chain.{done-is, opened, gives, skip, found-none, clear}
 use Rattle.floats.specs.Each.{Each}
-use Rattle.answer.specs.Limits.{parts, bandLimit}
+use Rattle.answer.specs.Limits.{parts, stepCount, bandLimit}
 use Rattle.parts.specs.Parts.{at, total}
 use Rattle.split.specs.Split.{levelSteps, splitAnswer}
 use Rattle.split.proofs.Passed.{lastTests, done-input}
@@ -51,13 +51,13 @@ module _ {B N : ℕ} {s : List ℕ} (p : Shaped B N s) (d : AllDone B s N) where
   row-some r h =
       let l = tab-length (λ j. levelAt s (r * B + j)) B in
       let few : length (rowLevels B s r) ≤ bandLimit = omega (arith, p .most) in
-      steps-total (rowLevels B s r)
+      steps-total stepCount (lit≤ tt) (rowLevels B s r)
       (done-input (rowLevels B s r) Done (omega (arith, p .some)) few (levels-fit B s r) refl (last-tests r h)) (le-trans few (lit≤ tt))
 
   row-length : (r : ℕ) → r < N → length (rowGains B s r) ≡ B
   unfolding rowGains
   row-length r h =
-      gains-length parts (levelSteps (rowLevels B s r)) (row-some r h) ∙ level-steps-length (rowLevels B s r)
+      gains-length parts (levelSteps (rowLevels B s r)) (row-some r h) ∙ level-steps-length stepCount (rowLevels B s r)
       ∙ tab-length (λ j. levelAt s (r * B + j)) B
 
   row-total : (r : ℕ) → r < N → total (rowGains B s r) ≡ parts

@@ -3,34 +3,34 @@ use mathlib.Core.Path.{_≡_, ap, _∙_}
 use native.Mathlib.Omega.{arith}
 use Rattle.lists.specs.Lists.{sumTo}
 use Rattle.lists.proofs.Sum.{sum-none, sum-more}
-use Rattle.parts.specs.Parts.{aheadIn}
+use Rattle.parts.specs.Parts.{aboveIn}
 use borrow.Author.Needs.{needs}
 use Rattle.parts.proofs.rank.Statement.{statement}
 use Rattle.parts.proofs.rank.Tie as tie
 
 abbrev Inv-loop : tie.InvT-loop
-Inv-loop remainders n i r k₀ j₀ k j = (j ≤ n) × (k ≡ sumTo (aheadIn remainders i) j) × (k ≤ j)
+Inv-loop keys n i own k₀ j₀ k j = (j ≤ n) × (k ≡ sumTo (aboveIn keys i) j) × (k ≤ j)
 
 abbrev μ-loop : tie.MeasureT-loop
-μ-loop remainders n i r k₀ j₀ k j = n - j
+μ-loop keys n i own k₀ j₀ k j = n - j
 
-mul-r : tie.Need-mul-r Inv-loop μ-loop
-mul-r c = search needs
+mul-own : tie.Need-mul-own Inv-loop μ-loop
+mul-own c = search needs
 
-shared-slice-read-r : tie.Need-shared-slice-read-r Inv-loop μ-loop
-shared-slice-read-r c = search needs
+shared-slice-read-own : tie.Need-shared-slice-read-own Inv-loop μ-loop
+shared-slice-read-own c = search needs
 
 loop-holds : tie.Need-loop-holds Inv-loop μ-loop
 loop-holds c = (omega arith, sum-none _, omega arith)
 
-mul-is-ahead : tie.Need-mul-is-ahead Inv-loop μ-loop
-mul-is-ahead c = search needs
+mul-is-below : tie.Need-mul-is-below Inv-loop μ-loop
+mul-is-below c = search needs
 
-shared-slice-read-is-ahead : tie.Need-shared-slice-read-is-ahead Inv-loop μ-loop
-shared-slice-read-is-ahead c = search needs
+shared-slice-read-is-below : tie.Need-shared-slice-read-is-below Inv-loop μ-loop
+shared-slice-read-is-below c = search needs
 
-is-ahead-requires : tie.Need-is-ahead-requires Inv-loop μ-loop
-is-ahead-requires c κs = search needs
+is-below-requires : tie.Need-is-below-requires Inv-loop μ-loop
+is-below-requires c κs = search needs
 
 add-k : tie.Need-add-k Inv-loop μ-loop
 add-k c = search needs
@@ -42,15 +42,15 @@ loop-less : tie.Need-loop-less Inv-loop μ-loop
 loop-less c = search needs
 
 loop-again : tie.Need-loop-again Inv-loop μ-loop
-unfolding aheadIn
+unfolding aboveIn
 loop-again c =
     let at = c .before .before .before in
-    (omega arith, sum-more _ (at .loop .j) (at .loop .k) _ (at .loop .inv .1) (c .is-ahead .ensures .0), omega arith)
+    (omega arith, sum-more _ (at .loop .j) (at .loop .k) _ (at .loop .inv .1) (c .is-below .ensures .0), omega arith)
 
 returns : tie.Need-returns Inv-loop μ-loop
 returns c =
     let a = c .before .before .before .before .args in
-    c .before .loop .inv .1 ∙ ap (sumTo (aheadIn (a .remainders .now) (a .i))) (omega arith)
+    c .before .loop .inv .1 ∙ ap (sumTo (aboveIn (a .keys .now) (a .i))) (omega arith)
 
 pub rank-spec : {M : Type 1} → statement M
 rank-spec =
@@ -58,12 +58,12 @@ rank-spec =
     (tie.spec
     Inv-loop
     μ-loop
-    mul-r
-    shared-slice-read-r
+    mul-own
+    shared-slice-read-own
     loop-holds
-    mul-is-ahead
-    shared-slice-read-is-ahead
-    is-ahead-requires
+    mul-is-below
+    shared-slice-read-is-below
+    is-below-requires
     add-k
     add-j
     loop-less

@@ -7,10 +7,11 @@ use mathlib.Core.List.{List, map}
 use native.Mathlib.Omega.{arith}
 use borrow.Author.Needs.{needs}
 use borrow.Author.Tests.{not-true, not-false}
-use lib.Dec.{T}
+use lib.Dec.{T, lit≤}
 use lib.Ieee.{Float, binary32, fits}
 use lib.ListN.{length}
 use Rattle.answer.specs.Answer.{judged, isDone}
+use Rattle.answer.specs.Limits.{stepCount}
 use Rattle.answer.proofs.Chain.{breaks, ends}
 use Rattle.floats.specs.Values.{zeroF, oneF}
 use Rattle.softmax.specs.Softmax.{weightsOf}
@@ -20,7 +21,7 @@ use Rattle.softmax_facts.proofs.Called.{called}
 use Rattle.softmax_facts.specs.SoftmaxFacts.{Input}
 use Rattle.softmax_facts.proofs.Facts.{softmax-facts, weights-length}
 use Rattle.parts.specs.Parts.{total}
-use Rattle.split.specs.Split.{gainsOf, stepsOf, levelSteps, splitAnswer}
+use Rattle.split.specs.Split.{gainsOf, stepsOf, levelStepsOver, levelSteps, splitAnswer}
 use Rattle.split.proofs.Passed.{lastTests, softmax-rest, done-input, past-counts}
 use Rattle.split.proofs.Positive.{level-steps-length, steps-total}
 use Rattle.split.proofs.by_weights.Statement.{statement}
@@ -84,7 +85,7 @@ steps-all-requires c κs =
     )
 
 steps : (c : tie.After-steps-all) → c .steps-all .last .1 .0 ≡ levelSteps (levels (start (at (c .before .before .before))))
-unfolding levelSteps
+unfolding levelStepsOver
 steps c = c .steps-all .ensures ∙ ap (map stepsOf) (weights (c .before .before .before))
 
 part-requires : tie.Need-part-requires
@@ -93,9 +94,9 @@ part-requires c κs =
     let s = levels (start (at e)) in
     let p = start (at e) .pre .0 in
     let a = steps (c .before .before .before .before) in
-    let l = ap length a ∙ level-steps-length s in
+    let l = ap length a ∙ level-steps-length stepCount s in
     let few : length s ≤ 64 = omega arith in
-    (omega arith, sym (p .2) ∙ sym l, subst (λ l. 0 < total l) (sym a) (steps-total s (input e) few), omega arith)
+    (omega arith, sym (p .2) ∙ sym l, subst (λ l. 0 < total l) (sym a) (steps-total stepCount (lit≤ tt) s (input e) few), omega arith)
 
 same-length-2 : tie.Need-same-length-2
 same-length-2 c = search needs

@@ -5,15 +5,16 @@ use crate::softmax::{all_masked, in_domain, weights};
 
 pub const PARTS: u64 = 32768;
 pub const BAND_LIMIT: usize = 16;
-const STEP_BITS: i32 = 24;
+/// A weight of 1 is 2^30 steps; before request L6 it was 2^24.
+pub const STEP_BITS: i32 = 30;
 
-/// A weight from 0 to 1, times 2^24, to the nearest whole number, ties to even.
-pub fn steps(weight: f32) -> u64 {
+/// A weight from 0 to 1, times 2^step_bits, to the nearest whole number, ties to even.
+pub fn steps(step_bits: i32, weight: f32) -> u64 {
     let bits = weight.to_bits();
     let exponent = (bits >> 23) as i32;
     let digits = (bits & 0x7f_ffff) as u64;
     let (digits, scale) = if exponent == 0 { (digits, -149) } else { (digits | 0x80_0000, exponent - 150) };
-    let shift = scale + STEP_BITS;
+    let shift = scale + step_bits;
     if shift >= 0 {
         return digits << shift;
     }
@@ -26,9 +27,13 @@ pub fn steps(weight: f32) -> u64 {
     whole + up as u64
 }
 
-/// Each band's whole part, then the parts left over to the largest remainders, equal ones to the lower band.
 pub fn gains(weights: &[f32]) -> Vec<u16> {
-    let a: Vec<u64> = weights.iter().map(|&w| steps(w)).collect();
+    gains_in(STEP_BITS, weights)
+}
+
+/// Each band's whole part, then the parts left over to the largest remainders, equal ones to the lower band.
+pub fn gains_in(step_bits: i32, weights: &[f32]) -> Vec<u16> {
+    let a: Vec<u64> = weights.iter().map(|&w| steps(step_bits, w)).collect();
     let total: u64 = a.iter().sum();
     let mut gains: Vec<u64> = a.iter().map(|a| PARTS * a / total).collect();
     let left = PARTS - gains.iter().sum::<u64>();

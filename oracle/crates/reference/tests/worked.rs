@@ -27,6 +27,8 @@ fn splits() {
     assert_eq!(gains(&[f32::MAX; 5]), [6554, 6554, 6554, 6553, 6553]);
     assert_eq!(gains(&[0.0, -100.0]), [32768, 0]);
     assert_eq!(gains(&[0.0, MASK, 0.0]), [16384, 0, 16384]);
+    // in steps of 2^-24 the shares end in a half each, and the lower band is ahead
+    assert_eq!(gains(&[-0.27, 0.0]), [14185, 18583]);
     assert_eq!(refusal(&[]), (7, 0));
     assert_eq!(refusal(&[0.0; 17]), (7, 0));
     assert_eq!(refusal(&[MASK; 3]), (5, 0));
