@@ -1,5 +1,5 @@
 //! Which lists of levels have other gains in 2^30 steps than in 2^24 (request L6), by the reference: how many of all pairs and of random lists
-//! of 3 to 16, and the smallest example.
+//! of 1 to 16, and the smallest example.
 
 use cases::Rng;
 use reference::softmax::weights;
