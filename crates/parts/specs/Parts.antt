@@ -59,9 +59,13 @@ module _ (N : ℕ) (a : List ℕ) where
   distanceOver g = sumTo (λ i. apart (total a * at g i) (N * at a i)) (length a)
 
 -- ---- for the code
--- remainder and band in one number, for up to 64 bands: a band is ahead of another where its key is the larger
+-- the most bands
+abbrev pub most : ℕ
+most = 64
+
+-- remainder and band in one number: of bands below `most` one is ahead of another where its key is the larger
 abbrev pub key : ℕ → List ℕ → ℕ → ℕ
-key N a i = 64 * remainder N a i + (63 - i)
+key N a i = most * remainder N a i + (most - 1 - i)
 
 -- 1 where the key of band j is above that of band i, by a list of the keys
 unfoldable pub aboveIn : List ℕ → ℕ → ℕ → ℕ

@@ -8,7 +8,7 @@ use lib.ListN.{length}
 use Rattle.lists.specs.Lists.{sumTo, Filled}
 use Rattle.lists.proofs.Placed.{placed-none, placed-more}
 use Rattle.lists.proofs.Sum.{sum-none, sum-more}
-use Rattle.parts.specs.Parts.{at, total, share, key}
+use Rattle.parts.specs.Parts.{at, total, share, most, key}
 use Rattle.parts.proofs.Shares.{product-small, share-fits}
 use borrow.Author.Needs.{needs}
 use Rattle.parts.proofs.whole.Statement.{statement}
@@ -57,8 +57,8 @@ module _ (c : tie.After-shared-slice-known Inv-loop μ-loop) where
   quotient : x / start .args .t ≡ share (start .args .parts) a i
   quotient = ap (λ t. x / t) (start .pre .1 .0)
 
-  keyed : 64 * (x % start .args .t) + (63 - i) ≡ key (start .args .parts) a i
-  keyed = ap (λ t. 64 * (x % t) + (63 - i)) (start .pre .1 .0)
+  keyed : most * (x % start .args .t) + (most - 1 - i) ≡ key (start .args .parts) a i
+  keyed = ap (λ t. most * (x % t) + (most - 1 - i)) (start .pre .1 .0)
 
 mul-x-2 : tie.Need-mul-x-2 Inv-loop μ-loop
 mul-x-2 c = omega (arith, small c)

@@ -5,7 +5,7 @@ use crate::softmax::{all_masked, in_domain, weights};
 
 pub const PARTS: u64 = 32768;
 pub const BAND_LIMIT: usize = 16;
-/// A weight of 1 is 2^30 steps; before request L6 it was 2^24.
+/// A weight of 1 is 2^30 steps (request L6).
 pub const STEP_BITS: i32 = 30;
 
 /// A weight from 0 to 1, times 2^step_bits, to the nearest whole number, ties to even.
