@@ -24,10 +24,10 @@ int main() {
     _mm_setcsr(_mm_getcsr() | FTZ_AND_DAZ);
 
     callback(s, samples + 3, 1);
-    printf("meter: %u %08x, weights", s.meter.count, bits(s.meter.sum_squares));
+    printf("meter: %u %u %08x, weights", s.meter.count, s.meter.overs, bits(s.meter.sum_squares));
     show_floats(s.weights, 2);
     callback(s, samples, 3);
-    printf("\nmeter: %u", s.meter.count);
+    printf("\nmeter: %u %u", s.meter.count, s.meter.overs);
     show_floats(&s.meter.sum_squares, 1);
     show_floats(&s.meter.least, 1);
     show_floats(&s.meter.largest, 1);

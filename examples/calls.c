@@ -76,7 +76,7 @@ static void ours(const struct lent *l) {
         printf(" %u", l->gains[i]);
     printf("\n");
     show_answer("meter_feed", mst_feed(&meter, l->src, l->n));
-    printf(" %u %08x %08x %08x\n", meter.count, bits(meter.sum_squares), bits(meter.least), bits(meter.largest));
+    printf(" %u %u %08x %08x %08x\n", meter.count, meter.overs, bits(meter.sum_squares), bits(meter.least), bits(meter.largest));
     show_answer("table_write", mst_table_write(N, 1, l->gains, l->n, l->bytes, l->bytes_n));
     for (size_t i = 0; i < l->bytes_n; i = i == 13 ? 508 : i + 1) /* header, three gains; the checks */
         printf(" %02x", l->bytes[i]);

@@ -1,7 +1,7 @@
 #!/usr/bin/env python3
 """Writes examples/expected/: what each example prints by document 01's words, by no code of the library. Run it at the top of the repository.
 
-Splits and softmax come from tools/exact.py (exact fractions, each step rounded once), stored bytes from tools/stored_table.py,
+Splits, softmax and the sine of overs.c come from tools/exact.py (exact fractions, each step rounded once), stored bytes from tools/stored_table.py,
 the operators from the stored answers of the Rust text in crates/replay_unary/stdin.
 """
 import sys
@@ -75,7 +75,7 @@ def ours():
     gains = exact.gains([pattern(x) for x in SOURCE])
     block = stored_table.stored(3, [gains])[0]
     yield line("split", 0, 0, gains)
-    yield line("meter_feed", 0, 0, [3, *hexes(map(pattern, [sum(x * x for x in SOURCE), min(SOURCE), max(SOURCE)]))])
+    yield line("meter_feed", 0, 0, [3, 2, *hexes(map(pattern, [sum(x * x for x in SOURCE), min(SOURCE), max(SOURCE)]))])
     yield line("table_write", 0, 0, [f"{b:02x}" for b in block[:14] + block[508:]])
     yield line("table_read", 0, 0, [3, 1])
     yield line("table_read_block", 0, 0, [1, 3, 1, 3 // 3])
@@ -84,7 +84,7 @@ def ours():
 # document 01, "Empty input", and the orders of refusals; 77 and the new meter are what the numbers hold before the call
 EMPTY = {
     "min_max": (0, hexes([INF, MINUS_INF])), "max_num": (0, hexes([MINUS_INF])), "min_num": (0, hexes([INF])),
-    "split": (7, []), "meter_feed": (0, [0, *hexes([0, INF, MINUS_INF])]),
+    "split": (7, []), "meter_feed": (0, [0, 0, *hexes([0, INF, MINUS_INF])]),
     "table_write": (1, []), "table_read": (9, [77] * 2), "table_read_block": (9, [77] * 4),
 }
 EMPTY.update((name, (0, hexes([0]))) for name in ("sum", "sum_square", "sum_abs", "sum_square_sub", "sum_exp_sub"))
@@ -178,6 +178,26 @@ def null_test():
     yield from tallied("each gain rounded by itself", alone)
 
 
+# ---- overs.c
+
+def metered(name, wave):
+    squares = Fraction(0)
+    for x in wave:
+        squares = exact.rounded(squares + exact.rounded(x * x))
+    floats = " ".join(hexes(map(pattern, [squares, min(wave), max(wave)])))
+    return f"{name}: count {len(wave)}, overs {sum(abs(x) >= 1 for x in wave)}, sum of squares, least and largest {floats}"
+
+
+def overs():
+    wave = [exact.rounded(Fraction(5, 4) * exact.sin_cos(Fraction(i, 16), False)) for i in range(1000)]
+    clipped = [max(min(x, Fraction(1)), Fraction(-1)) for x in wave]
+    yield metered("before the clip", wave)
+    for cut in "clipped, whole", "in blocks of 64", "one by one":
+        yield metered(cut, clipped)
+    yield "more overs than samples: 3 0"
+    yield "kept: count 0, overs 1, sum of squares, least and largest " + " ".join(hexes([0, INF, MINUS_INF]))
+
+
 # ---- ftz.c, callback.cpp
 
 def small_weights():
@@ -205,11 +225,11 @@ def callback():
     total = square
     for x in Fraction(1, 2), Fraction(-1), Fraction(1, 4):
         total = exact.rounded(total + x * x)
-    yield f"meter: 1 {pattern(square):08x}, weights " + " ".join(hexes(map(pattern, small_weights())))
-    yield "meter: 4 " + " ".join(hexes(map(pattern, [total, Fraction(-1), Fraction(1, 2)])))
+    yield f"meter: 1 0 {pattern(square):08x}, weights " + " ".join(hexes(map(pattern, small_weights())))
+    yield "meter: 4 1 " + " ".join(hexes(map(pattern, [total, Fraction(-1), Fraction(1, 2)])))
     yield "refused: count 4, flushing as the host set it: yes"
 
 
-for example in calls, refusals, split_table, null_test, ftz, callback:
+for example in calls, refusals, split_table, null_test, overs, ftz, callback:
     with open(f"examples/expected/{example.__name__}.txt", "w", encoding="ascii") as file:
         file.writelines(text + "\n" for text in example())

@@ -41,7 +41,8 @@ enum {
     MST_DONE = 0,           /* done */
     MST_LENGTH = 1,         /* lent slices differ from the needed length */
     MST_TOO_MANY = 2,       /* over 16,384 elements, or the meter's count would pass 4,294,967,295 */
-    MST_NOT_FINITE = 3,     /* alpha, offset, inv_scale or a setting not finite; meter float NaN or sum of squares below zero */
+    MST_NOT_FINITE = 3,     /* alpha, offset, inv_scale or a setting not finite; meter
+                               float NaN, sum of squares below zero or more overs than samples */
     MST_DOMAIN = 4,         /* element outside the domain; place: the first such */
     MST_MASKED = 5,         /* all masked: split; or softmax of one or more elements, flush off */
     MST_RESULT = 6,         /* normalize would yield NaN; place: the first such */
@@ -145,25 +146,26 @@ uint64_t mst_split(const float *levels, size_t n, uint16_t *gains, size_t m);
 
 /* ---- Meter */
 
-/* Feeds n samples to the meter in the four numbers: count, sum of squares, least and largest. The domain is finite numbers.
-   Feeding pieces in order gives the meter of feeding them joined, where the joined feeding isn't refused. Refuses 2 (n, or the
-   count), 3, 4; the meter is kept then. */
-uint64_t mst_meter_feed(uint32_t *count, float *sum_squares, float *least, float *largest, const float *src, size_t n);
+/* Feeds n samples to the meter in the five numbers: count, overs, sum of squares, least and largest. An over is a sample whose
+   size is at least 1.0, full scale; -1.0 is one too. The domain is finite numbers. Feeding pieces in order gives the meter of
+   feeding them joined, where the joined feeding isn't refused. Refuses 2 (n, or the count), 3, 4; the meter is kept then. */
+uint64_t mst_meter_feed(uint32_t *count, uint32_t *overs, float *sum_squares, float *least, float *largest, const float *src,
+                        size_t n);
 
 typedef struct {
-    uint32_t count;
+    uint32_t count, overs;
     float sum_squares, least, largest;
 } mst_meter;
 
-/* The meter of no samples: 0, +0, +infinity, -infinity. */
+/* The meter of no samples: 0, 0, +0, +infinity, -infinity. */
 static inline mst_meter mst_meter_new(void) {
-    mst_meter meter = {0, 0.0f, INFINITY, -INFINITY};
+    mst_meter meter = {0, 0, 0.0f, INFINITY, -INFINITY};
     return meter;
 }
 
 /* mst_meter_feed over a meter's own fields. */
 static inline uint64_t mst_feed(mst_meter *meter, const float *src, size_t n) {
-    return mst_meter_feed(&meter->count, &meter->sum_squares, &meter->least, &meter->largest, src, n);
+    return mst_meter_feed(&meter->count, &meter->overs, &meter->sum_squares, &meter->least, &meter->largest, src, n);
 }
 
 /* ---- Stored table: ceil(rows / floor(250 / bands)) blocks of 512 bytes, from rows of gains that each add up to 32768 */

@@ -112,6 +112,26 @@ def reduced_range_exp(x):
     return rounded(p * Fraction(2) ** k)
 
 
+# sin_cos.rs
+PI, HALF_PI = near("3.1415927"), near("1.5707964")
+
+
+def sin_cos(x, is_cos):
+    """Sin or Cos of a value, as a value; a zero loses its sign."""
+    k = whole(rounded(x * near("0.15915494")))
+    r = rounded(x - rounded(k * near("6.28125")))
+    r = rounded(r - rounded(k * near("1.9353072e-3")))
+    if is_cos:
+        r = rounded(HALF_PI - r)
+    r = min(r, rounded(PI - r))
+    r = max(r, rounded(-PI - r))
+    r = min(r, rounded(PI - r))
+    s = rounded(r * r)
+    p = rounded(mul_add(s, mul_add(s, near("3.2340581529e-03"), near("-1.3314664364e-01")), Fraction(1)) * r)
+    q = mul_add(s, mul_add(s, near("4.8770775902e-04"), near("3.3519912511e-02")), Fraction(1))
+    return rounded(p / q)
+
+
 # softmax.rs
 def weights(levels):
     """Softmax: minus infinity weighs 0."""

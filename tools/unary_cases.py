@@ -4,10 +4,8 @@
 Refusals follow document 01's numbered list and domains; the values are the steps of exp.rs, tanh.rs and sin_cos.rs by its readings.
 Run it at the top of the repository.
 """
-from fractions import Fraction
-
 from case_files import words, write_lines
-from exact import INF, MASK, MINUS_INF, NAN, ONE, SIGN, exp_parts, is_finite, mul_add, near, pattern, reduced_range_exp, rounded, value, whole
+from exact import INF, MASK, MINUS_INF, NAN, ONE, SIGN, exp_parts, is_finite, near, pattern, reduced_range_exp, rounded, sin_cos, value
 
 ROOM, LIMIT, SEVEN = 16385, 16384, 0x40E00000
 ZERO, MINUS_ZERO, MINUS_ONE, HALF, LEAST, MINUS_MOST = 0, 0x80000000, 0xBF800000, 0x3F000000, 1, 0xFF7FFFFF
@@ -34,29 +32,9 @@ def tanh(n):
     return (ONE if size >= near("9.02") else n & MASK) | n & SIGN
 
 
-# sin_cos.rs
-PI, HALF_PI = near("3.1415927"), near("1.5707964")
-
-
-def sin_cos(n, is_cos):
-    x = value(n)
-    k = whole(rounded(x * near("0.15915494")))
-    r = rounded(x - rounded(k * near("6.28125")))
-    r = rounded(r - rounded(k * near("1.9353072e-3")))
-    if is_cos:
-        r = rounded(HALF_PI - r)
-    r = min(r, rounded(PI - r))
-    r = max(r, rounded(-PI - r))
-    r = min(r, rounded(PI - r))
-    s = rounded(r * r)
-    p = rounded(mul_add(s, mul_add(s, near("3.2340581529e-03"), near("-1.3314664364e-01")), Fraction(1)) * r)
-    q = mul_add(s, mul_add(s, near("4.8770775902e-04"), near("3.3519912511e-02")), Fraction(1))
-    return pattern(rounded(p / q))
-
-
 VALUES = {
     "exp": exp, "reduced_range_exp": lambda n: pattern(reduced_range_exp(value(n))), "tanh": tanh,
-    "sin": lambda n: sin_cos(n, False), "cos": lambda n: sin_cos(n, True),
+    "sin": lambda n: pattern(sin_cos(value(n), False)), "cos": lambda n: pattern(sin_cos(value(n), True)),
 }
 
 

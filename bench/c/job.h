@@ -46,7 +46,7 @@ struct loop {
         *(float *)j->dst = h;                                                                                         \
     }
 
-/* Both extremes, and with them the squares' sum: a feeding of a new meter. */
+/* Both extremes, and with them the squares' sum and the overs: a feeding of a new meter. */
 #define EXTREMES(LESSER, LARGER)                                                                                      \
     static void min_max_loop(const struct job *j) {                                                                   \
         float least = INFINITY, largest = -INFINITY, *d = j->dst;                                                     \
@@ -59,17 +59,18 @@ struct loop {
     }                                                                                                                 \
     static void meter_feed_loop(const struct job *j) {                                                                \
         float sum = 0.0f, least = INFINITY, largest = -INFINITY, *d = j->dst;                                         \
-        const uint32_t count = (uint32_t)j->n;                                                                        \
+        uint32_t count[2] = {(uint32_t)j->n, 0};                                                                      \
         for (size_t i = 0, n = j->n; i < n; i++) {                                                                    \
             const float x = j->src[i];                                                                                \
             sum = x * x + sum;                                                                                        \
+            count[1] += fabsf(x) >= 1.0f;                                                                             \
             least = LESSER(least, x);                                                                                 \
             largest = LARGER(largest, x);                                                                             \
         }                                                                                                             \
-        memcpy(d, &count, sizeof count);                                                                              \
-        d[1] = sum;                                                                                                   \
-        d[2] = least;                                                                                                 \
-        d[3] = largest;                                                                                               \
+        memcpy(d, count, sizeof count);                                                                               \
+        d[2] = sum;                                                                                                   \
+        d[3] = least;                                                                                                 \
+        d[4] = largest;                                                                                               \
     }
 
 /* E of y = x less the bias before scaling, u and b being the scale and the bias of an element. */

@@ -105,11 +105,13 @@ fn folds() -> Vec<Kernel> {
         }),
         fold!("max_num", mst_max_num, text::max_num),
         fold!("min_num", mst_min_num, text::min_num),
-        // The text has no meter: its SumSquare and MinMax of the same samples.
+        // The text has no meter: its SumSquare and MinMax of the same samples, and a count of the overs.
         kernel("meter_feed", USUAL, ORDERED_LIMIT, our_feeding, |j| {
             let sum = text::sum(Kind::SumSquare, j.src());
             let (least, largest) = text::min_max(j.src());
-            j.out(4).copy_from_slice(&[f32::from_bits(j.n as u32), sum, least, largest]);
+            let overs = j.src().iter().filter(|x| x.abs() >= 1.0).count();
+            let [count, overs] = [j.n, overs].map(|n| f32::from_bits(n as u32));
+            j.out(5).copy_from_slice(&[count, overs, sum, least, largest]);
         }),
     ]
 }
@@ -120,10 +122,11 @@ fn our_min_max(j: &Job) {
 }
 
 fn our_feeding(j: &Job) {
-    let (mut count, [_, sum, least, largest]) = (0, j.out::<f32>(4)) else { unreachable!() };
+    let (mut count, mut overs) = (0, 0);
+    let [_, _, sum, least, largest] = j.out::<f32>(5) else { unreachable!() };
     (*sum, *least, *largest) = (0.0, f32::INFINITY, f32::NEG_INFINITY);
-    _ = unsafe { mst_meter_feed(&mut count, sum, least, largest, j.src, j.n) };
-    j.out(1)[0] = count;
+    _ = unsafe { mst_meter_feed(&mut count, &mut overs, sum, least, largest, j.src, j.n) };
+    j.out(2).copy_from_slice(&[count, overs]);
 }
 
 fn our_normalize(j: &Job, has_scale: bool, has_bias: bool) {

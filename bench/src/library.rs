@@ -22,6 +22,7 @@ like!(mst_normalize: (pre_scale_bias: f32, scale: f32, bias: f32, has_scale: boo
     has_bias: bool, element_bias: *const f32, nb: usize, src: *const f32, n: usize, dst: *mut f32, m: usize));
 like!(mst_quantize: (inv_scale: f32, zero_point: u8, src: *const f32, n: usize, dst: *mut u8, m: usize));
 like!(mst_split: (levels: *const f32, n: usize, gains: *mut u16, m: usize));
-like!(mst_meter_feed: (count: *mut u32, sum_squares: *mut f32, least: *mut f32, largest: *mut f32, src: *const f32, n: usize));
+like!(mst_meter_feed: (count: *mut u32, overs: *mut u32, sum_squares: *mut f32, least: *mut f32, largest: *mut f32,
+    src: *const f32, n: usize));
 like!(mst_table_write: (bands: u32, rows: u32, gains: *const u16, n: usize, bytes: *mut u8, m: usize));
 like!(mst_table_read: (bytes: *const u8, n: usize, gains: *mut u16, m: usize, bands: *mut u32, rows: *mut u32));

@@ -4,13 +4,15 @@ use crate::ffi;
 use crate::guard::guarded;
 use crate::refusal::Refusal;
 
-/// The count, sum of squares, least and largest of the samples fed.
+/// The count of the samples fed, the overs among them, their sum of squares, the least and the largest.
 ///
 /// Feeding pieces in order gives the meter of the joined feeding, bit for bit, where the joined one isn't refused.
 #[derive(Clone, Copy, Debug, PartialEq)]
 pub struct Meter {
     /// How many samples were fed.
     pub count: u32,
+    /// How many of them were of full scale: a size of at least 1.0. Never more than the count.
+    pub overs: u32,
     /// Their squares, each rounded, added in order.
     pub sum_squares: f32,
     /// The least of them, +infinity before any.
@@ -20,17 +22,17 @@ pub struct Meter {
 }
 
 impl Meter {
-    /// The meter before any sample: 0, +0, +infinity, -infinity.
+    /// The meter before any sample: 0, 0, +0, +infinity, -infinity.
     ///
     /// ```
     /// use masoritun::Meter;
     ///
-    /// let start = Meter { count: 0, sum_squares: 0.0, least: f32::INFINITY, largest: f32::NEG_INFINITY };
+    /// let start = Meter { count: 0, overs: 0, sum_squares: 0.0, least: f32::INFINITY, largest: f32::NEG_INFINITY };
     /// assert_eq!(Meter::new(), start);
     /// assert_eq!(Meter::default(), start);
     /// ```
     pub const fn new() -> Self {
-        Meter { count: 0, sum_squares: 0.0, least: f32::INFINITY, largest: f32::NEG_INFINITY }
+        Meter { count: 0, overs: 0, sum_squares: 0.0, least: f32::INFINITY, largest: f32::NEG_INFINITY }
     }
 
     /// Feeds samples. Domain: finite.
@@ -40,7 +42,7 @@ impl Meter {
     /// The first that holds; the meter then stays as it was.
     ///
     /// - 2 [`Refusal::TooMany`]: over 16,384 samples, or the count would pass 4,294,967,295.
-    /// - 3 [`Refusal::NotFinite`]: a float of the meter is NaN, or its sum of squares is below zero.
+    /// - 3 [`Refusal::NotFinite`]: a float of the meter is NaN, its sum of squares is below zero, or it has more overs than samples.
     /// - 4 [`Refusal::Domain`]: a sample is not finite; the place is the first such.
     ///
     /// # Example
@@ -48,14 +50,14 @@ impl Meter {
     /// ```
     /// let mut meter = masoritun::Meter::new();
     /// meter.feed(&[3.0])?;
-    /// meter.feed(&[-4.0, 1.0])?;
-    /// assert_eq!(meter, masoritun::Meter { count: 3, sum_squares: 26.0, least: -4.0, largest: 3.0 });
+    /// meter.feed(&[-4.0, 0.5])?;
+    /// assert_eq!(meter, masoritun::Meter { count: 3, overs: 2, sum_squares: 25.25, least: -4.0, largest: 3.0 });
     /// # Ok::<(), masoritun::Refusal>(())
     /// ```
     pub fn feed(&mut self, samples: &[f32]) -> Result<(), Refusal> {
-        let Meter { count, sum_squares, least, largest } = self;
-        // SAFETY: four numbers and a slice with its length; `self` is borrowed alone, so they do not overlap.
-        guarded(|| unsafe { ffi::mst_meter_feed(count, sum_squares, least, largest, samples.as_ptr(), samples.len()) })
+        let Meter { count, overs, sum_squares, least, largest } = self;
+        // SAFETY: five numbers and a slice with its length; `self` is borrowed alone, so they do not overlap.
+        guarded(|| unsafe { ffi::mst_meter_feed(count, overs, sum_squares, least, largest, samples.as_ptr(), samples.len()) })
     }
 }
 

@@ -62,7 +62,7 @@ macro_rules! refusals {
 refusals! {
     1 Length "lent slices differ from the needed length";
     2 TooMany "over 16,384 elements in a kernel or feeding, or meter count would pass 4,294,967,295";
-    3 NotFinite "alpha, offset, inv_scale or a setting not finite; meter float NaN or sum of squares below zero";
+    3 NotFinite "alpha, offset, inv_scale or a setting not finite; meter float NaN, sum of squares below zero or more overs than samples";
     4 Domain(element: usize) "element outside the domain";
     5 Masked "all masked, in split or in softmax of one or more elements with flush off";
     6 Result(element: usize) "normalize would yield NaN";

@@ -165,10 +165,13 @@ fn meters() {
         (3, 0, Meter { least: NAN, ..start }, vec![NAN]),
         (3, 0, Meter { largest: NAN, ..start }, vec![1.0]),
         (3, 0, Meter { sum_squares: -1e-40, ..start }, vec![1.0]),
+        (2, 0, Meter { overs: 1, ..start }, vec![NAN; 16_385]),
+        (3, 0, Meter { overs: 1, ..start }, vec![]),
+        (3, 0, Meter { count: 7, overs: 8, ..start }, vec![NAN]),
         (4, 2, start, vec![1.0, 2.0, INF, NAN]),
     ];
     for (number, place, held, samples) in cases {
-        let bits = |m: Meter| (m.count, [m.sum_squares, m.least, m.largest].map(f32::to_bits));
+        let bits = |m: Meter| (m.count, m.overs, [m.sum_squares, m.least, m.largest].map(f32::to_bits));
         let mut meter = held;
         let refusal = meter.feed(&samples).expect_err("a refusal");
         assert_eq!((refusal.number(), refusal.place()), (number, place), "{refusal}");

@@ -1,15 +1,15 @@
 -- |x| is the larger of x and 0 - x: nothing is lost, and of the two zeros it is +0. Assumes nothing.
-use mathlib.Core.Path.{_≡_, refl, sym, _∙_, subst}
-use mathlib.Core.Bool.{true, false, true≢false, false≢true}
+use mathlib.Core.Path.{_≡_, refl, sym, _∙_, ap, subst}
+use mathlib.Core.Bool.{Bool, true, false, _||_, _&&_, true≢false, false≢true}
 use mathlib.Core.Logic.{inl, inr}
 use Prim.Native.Nat.{ℕ, _+_, _*_, _<_}
 use native.Mathlib.Nat.{zero-mul, mul-one, one-mul, zero-add, sub-zero, mul-pos, eq-zero-or-pos}
 use native.Mathlib.Omega.{arith}
 use lib.IntN.{ℤ}
-use lib.Dec.{T}
-use lib.Ieee.{Float, nan, inf, fin, Format, up, down, sum, sub, mul, lt, fits, ofBits}
+use lib.Dec.{T, ltb, eqb}
+use lib.Ieee.{Float, nan, inf, fin, Format, up, down, sum, sub, mul, lt, eq, le, fits, ofBits}
 use lib.Ieee.Fits.{down-pos}
-use borrow.Author.Tests.{lt-ltb}
+use borrow.Author.Tests.{lt-ltb, eqb-true, eqb-false, eq-eqb, ne-eqb}
 use Rattle.floats.specs.Floats.{absOf}
 use Rattle.floats.proofs.Exact.{round-self, zero-unique, sub-self-f}
 use Rattle.floats.proofs.Pattern.{fits-sign}
@@ -65,3 +65,40 @@ square-of-size f (inf true) = refl
 square-of-size f (inf false) = refl
 square-of-size f (fin true m e) = refl
 square-of-size f (fin false m e) = refl
+
+-- a size reaches a number above zero where x reaches it, or x is at most its minus
+eqb-turn : (a b : ℕ) → eqb a b ≡ eqb b a
+eqb-turn a b = go (eqb b a) refl
+  where
+    go : (t : Bool) → eqb b a ≡ t → eqb a b ≡ t
+    go true e = eq-eqb a b (sym (eqb-true b a e))
+    go false e = ne-eqb a b (λ h. eqb-false b a e (sym h))
+
+or-none : (t u : Bool) → u ≡ false → t ≡ t || u
+or-none true u e = refl
+or-none false u e = sym e
+
+none-or : (t u : Bool) → t ≡ false → u ≡ t || u
+none-or t u e = rw e
+
+-- unlike signs are level at zero alone
+not-level : (a b : ℕ) → 0 < a + b → eqb a b && eqb a 0 ≡ false
+not-level a b p = go (eqb a b) refl
+  where
+    go : (t : Bool) → eqb a b ≡ t → t && eqb a 0 ≡ false
+    go true e = ne-eqb a 0 (λ z. omega (arith, eqb-true a b e))
+    go false e = refl
+
+pub size-reaches : (n : ℕ) (d : ℤ) (x : Float) → 0 < n * up d → le (fin false n d) (absOf x) ≡ le (fin false n d) x || le x (fin true n d)
+unfolding le lt eq
+size-reaches n d nan p = refl
+size-reaches n d (inf true) p = refl
+size-reaches n d (inf false) p = refl
+size-reaches n d (fin false m e) p =
+    let q = mul-pos p (down-pos e) in
+    or-none _ _ (not-level (m * up e * down d) (n * up d * down e) (omega arith))
+size-reaches n d (fin true m e) p =
+    let q = mul-pos p (down-pos e) in
+    let a = n * up d * down e in
+    let b = m * up e * down d in
+    ap (λ t. ltb a b || (t && true)) (eqb-turn a b) ∙ none-or (eqb a b && eqb a 0) _ (not-level a b (omega arith))

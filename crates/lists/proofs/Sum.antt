@@ -1,12 +1,16 @@
 -- Laws of sums by index. Assumes nothing.
 use Prim.Native.Nat.{ℕ, zero, suc, _+_, _*_, _≤_, _<_}
-use mathlib.Core.Path.{_≡_, refl, sym, ap, ap₂}
+use mathlib.Core.Path.{_≡_, refl, sym, ap, ap₂, _∙_}
+use mathlib.Core.Bool.{Bool, true, false}
 use mathlib.Core.Logic.{_⊎_, inl, inr, ⊎-elim}
+use mathlib.Core.List.{List, _++_}
 use native.Mathlib.Decide.{decLt}
 use native.Mathlib.Nat.{add-zero, add-suc, add-assoc, mul-zero, eq-or-lt-of-le, le-of-suc-le-suc}
 use native.Mathlib.Numerals.{add-one}
 use native.Mathlib.Omega.{arith}
-use Rattle.lists.specs.Lists.{sumTo}
+use lib.ListN.{length, getD, length-append, List·getD-append}
+use lib.Seq.{getD-append-add}
+use Rattle.lists.specs.Lists.{sumTo, bit}
 
 pub sum-none : (f : ℕ → ℕ) → 0 ≡ sumTo f 0
 unfolding sumTo
@@ -67,6 +71,15 @@ unfolding sumTo
 sum-join f n zero = rw (add-zero n, add-zero (sumTo f n))
 sum-join f n (suc m) = rw (add-suc, sum-join f n m, add-assoc)
 
+-- over the elements of joined lists
+pub sum-of-joined : {A : Type 0} (f : A → ℕ) (z : A) (s t : List A)
+    → sumTo (λ i. f (getD (s ++ t) i z)) (length (s ++ t)) ≡ sumTo (λ i. f (getD s i z)) (length s) + sumTo (λ i. f (getD t i z)) (length t)
+sum-of-joined f z s t =
+    let both : ℕ → ℕ = λ i. f (getD (s ++ t) i z) in
+    ap (sumTo both) (length-append s t)
+    ∙ sum-join both (length s) (length t)
+    ∙ ap₂ _+_ (sum-same _ _ (length s) (λ i l. ap f (List·getD-append s t z i l))) (sum-same _ _ (length t) (λ i l. ap f (getD-append-add s t i z)))
+
 -- where every term is at most c
 pub sum-bound : (c : ℕ) (f : ℕ → ℕ) (n : ℕ) → ((i : ℕ) → i < n → f i ≤ c) → sumTo f n ≤ n * c
 sum-bound c f n h = omega (arith, sum-le f (λ i. c) n h, sum-const c n)
@@ -74,6 +87,14 @@ sum-bound c f n h = omega (arith, sum-le f (λ i. c) n h, sum-const c n)
 -- where every term is 1
 pub sum-ones : (f : ℕ → ℕ) (n : ℕ) → ((i : ℕ) → i < n → f i ≡ 1) → n ≤ sumTo f n
 sum-ones f n h = omega (arith, sum-le (λ i. 1) f n (λ i l. omega (arith, h i l)), sum-const 1 n)
+
+-- no more places pass a test than there are
+pub bit-small : (t : Bool) → bit t ≤ 1
+bit-small true = omega arith
+bit-small false = omega arith
+
+pub sum-bits : (p : ℕ → Bool) (n : ℕ) → sumTo (λ i. bit (p i)) n ≤ n
+sum-bits p n = omega (arith, sum-bound 1 (λ i. bit (p i)) n (λ i l. bit-small (p i)))
 
 three : (n m : ℕ) → (n < m) ⊎ ((n ≡ m) ⊎ (m < n))
 three n m = elim (decLt n m) [ yes p ↦ inl p | no p ↦ inr (two n m (omega arith)) ]

@@ -1,7 +1,7 @@
 -- Sums, lists and searches as functions of the index, and a list that is written in part. Definitions only.
 use Prim.Native.Nat.{ℕ, zero, suc, _+_, _≤_, _<_}
 use mathlib.Core.Path.{_≡_}
-use mathlib.Core.Bool.{Bool, cond}
+use mathlib.Core.Bool.{Bool, true, false, cond}
 use mathlib.Core.List.{List, [], _∷_}
 use lib.ListN.{length, getD}
 
@@ -9,6 +9,11 @@ use lib.ListN.{length, getD}
 unfoldable pub sumTo : (ℕ → ℕ) → ℕ → ℕ
 sumTo f zero = 0
 sumTo f (suc n) = sumTo f n + f n
+
+-- a test as a number: 1 where it holds, else 0
+abbrev pub bit : Bool → ℕ
+bit true = 1
+bit false = 0
 
 -- f 0, f 1, .., f (n - 1)
 unfoldable pub tab : {A : Type 0} → (ℕ → A) → ℕ → List A

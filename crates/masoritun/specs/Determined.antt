@@ -53,7 +53,7 @@ pub record EachCall : Type 0 where
       → Determined (packed (normalize.inPlaceTold st hs es hb eb buf)) (normalize.inPlaceOut st hs es hb eb buf)
   pub mst-quantize : (inv : Float) (zp : ℕ) (src : List Float) (dst : List ℕ) → Determined (packed (quantizeTold inv src dst)) (quantizeOut inv zp src dst)
   pub mst-split : (levels : List Float) (gains : List ℕ) → Determined (packed (splitTold levels gains)) (splitOut levels gains)
-  -- a meter's four numbers; a table's bytes; gains with bands and rows; a block's form, bands, rows and rows held
+  -- a meter's five numbers; a table's bytes; gains with bands and rows; a block's form, bands, rows and rows held
   pub mst-meter-feed : (held : Meter) (src : List Float) → Determined (packed (fedTold (feedOf held src) .0)) (leftOf held src)
   pub mst-table-write : (B N : ℕ) (gains bytes : List ℕ) → Determined (packed (writeTold B N gains bytes)) (writeOut B N gains bytes)
   pub mst-table-read : (bytes gains : List ℕ) (bands rows : ℕ)

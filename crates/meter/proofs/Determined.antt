@@ -11,11 +11,11 @@ use Rattle.meter.specs.declared.Meter.{Meter}
 use Rattle.meter.specs.declared.Fed.{Fed}
 use Rattle.meter.specs.declared.Fed.the-variants.{Next, Refused}
 
--- four values make a meter
-made : ℕ × Float × Float × Float → Meter
-made v = record { count = v .0; «sum_squares» = v .1; least = v .2; largest = v .3 }
+-- five values make a meter
+made : ℕ × ℕ × Float × Float × Float → Meter
+made v = record { count = v .0; overs = v .1; «sum_squares» = v .2; least = v .3; largest = v .4 }
 
-told-some : (v : ℕ × Float × Float × Float) → some v ≡ none → ⊥
+told-some : (v : ℕ × ℕ × Float × Float × Float) → some v ≡ none → ⊥
 told-some v e = let z : _≡_ {A = ℕ} 0 1 = cc in omega arith
 
 -- what is told is one to one

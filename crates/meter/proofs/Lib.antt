@@ -1,4 +1,5 @@
 pub mod Feed
+pub mod Overs
 pub mod Sound
 pub mod Pieces
 pub mod Count

@@ -15,14 +15,15 @@ use Rattle.meter.specs.declared.Meter.{Meter}
 use Rattle.meter.specs.declared.Fed.the-variants.{Next}
 use Rattle.meter.specs.Claims.{TwoPieces, AllPieces}
 use Rattle.meter.proofs.Feed.{Accepted, accepts, accepted}
+use Rattle.meter.proofs.Overs.{overs-append, overs-none}
 use Rattle.meter.proofs.Sound.{next-sound}
 
 -- the next meter's next one is the joined feeding's
 next-append : (m : Meter) (s t : List Float) → nextOf m (s ++ t) ≡ nextOf (nextOf m s) t
-next-append m s t = simp (length-append, add-assoc, sum-append, extreme-append)
+next-append m s t = simp (length-append, overs-append, add-assoc, sum-append, extreme-append)
 
 next-none : (m : Meter) → nextOf m [] ≡ m
-next-none m = simp (add-zero, sum-none, extreme-none)
+next-none m = simp (overs-none, add-zero, sum-none, extreme-none)
 
 module _ (m : Meter) (s t : List Float) (a : Accepted m (s ++ t)) where
   first-accepted : Accepted m s

@@ -1,9 +1,11 @@
 -- A sound meter, part by part, and the meter after finite samples: it is sound again. Assumes nothing.
-use Prim.Native.Nat.{ℕ, _<_}
+use Prim.Native.Nat.{ℕ, _≤_, _<_}
 use mathlib.Core.Path.{_≡_, sym, subst}
 use mathlib.Core.Bool.{true, not, _&&_}
 use mathlib.Core.List.{List}
-use lib.Dec.{T, T-not, not-T}
+use native.Mathlib.Omega.{arith}
+use borrow.Author.Tests.{leb-true, le-leb}
+use lib.Dec.{T, T-not, not-T, leb}
 use lib.Ieee.{Float, nan, ofBits, lt, le, isNan}
 use lib.Ieee.Bits.{is-true}
 use lib.Ieee.Fits.{and-l, and-r, and-i}
@@ -20,28 +22,33 @@ use Rattle.sum.proofs.Fold.{sum-keeps}
 use Rattle.meter.specs.Meter.{soundMeter, nextOf}
 use Rattle.meter.specs.declared.Meter.{Meter}
 use Rattle.meter.proofs.Feed.{Accepted}
+use Rattle.meter.proofs.Overs.{overs-few}
 
 -- a sound meter, part by part
 pub record Sound (m : Meter) : Type 0 where
   pub sum : T (le zeroF (m .«sum_squares»))
   pub least : T (not (isNan (m .least)))
   pub largest : T (not (isNan (m .largest)))
+  pub overs : m .overs ≤ m .count
 
 zero-number : T (not (isNan zeroF))
 unfolding ofBits isNan
 zero-number = tt
 
-sound-parts : (m : Meter) → T (soundMeter m) → Sound m
+pub sound-parts : (m : Meter) → T (soundMeter m) → Sound m
 sound-parts m t =
     let a = not (isNan (m .«sum_squares»)) in
     let b = not (isNan (m .least)) in
     let c = not (isNan (m .largest)) in
-    let abc = and-l (a && b && c) _ t in
+    let d = not (lt (m .«sum_squares») zeroF) in
+    let abcd = and-l (a && b && c && d) _ t in
+    let abc = and-l (a && b && c) d abcd in
     let ab = and-l (a && b) c abc in
     record {
-      sum = nlt→le (m .«sum_squares») zeroF (and-l a b ab) zero-number (and-r (a && b && c) _ t);
+      sum = nlt→le (m .«sum_squares») zeroF (and-l a b ab) zero-number (and-r (a && b && c) d abcd);
       least = and-r a b ab;
       largest = and-r (a && b) c abc;
+      overs = leb-true _ _ (is-true _ (and-r (a && b && c && d) _ t));
     }
 
 parts-sound : (m : Meter) → Sound m → T (soundMeter m)
@@ -51,7 +58,9 @@ parts-sound m p =
     let c = not (isNan (m .largest)) in
     let x = m .«sum_squares» in
     let d = not-T (lt x zeroF) (λ (h : T (lt x zeroF)). T-not (le zeroF x) (lt→nle x zeroF h) (p .sum)) in
-    and-i (a && b && c) (not (lt x zeroF)) (and-i (a && b) c (and-i a b (le-numbers zeroF x (p .sum) .1) (p .least)) (p .largest)) d
+    let abc = and-i (a && b) c (and-i a b (le-numbers zeroF x (p .sum) .1) (p .least)) (p .largest) in
+    and-i (a && b && c && not (lt x zeroF)) (leb (m .overs) (m .count)) (and-i (a && b && c) (not (lt x zeroF)) abc d)
+    (subst T (sym (le-leb _ _ (p .overs))) tt)
 
 -- finite samples are numbers
 pub each-number : (s : List Float) → Passed (finiteAt s) (length s) → (i : ℕ) → i < length s → T (not (isNan (getD s i nan)))
@@ -65,6 +74,7 @@ next-parts m s a =
       sum = sum-keeps SumSquare (λ b. T (le zeroF b)) (λ b x k f. square-add-le b x k (finite-number x f)) s (a .each-finite) (m .«sum_squares») (p .sum);
       least = extreme-number _ s number (m .least) (p .least);
       largest = extreme-number _ s number (m .largest) (p .largest);
+      overs = omega (arith, p .overs, overs-few s);
     }
 
 pub next-sound : (m : Meter) (s : List Float) → Accepted m s → soundMeter (nextOf m s) ≡ true

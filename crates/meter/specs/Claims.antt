@@ -1,9 +1,10 @@
 -- The claims on feedings in pieces. Statements only.
+use Prim.Native.Nat.{_≤_}
 use mathlib.Core.Path.{_≡_}
 use mathlib.Core.List.{List, _++_, flatten}
 use lib.Ieee.{Float}
 use lib.ListN.{length}
-use Rattle.meter.specs.Meter.{newMeter, feedOf, feedAll}
+use Rattle.meter.specs.Meter.{oversIn, newMeter, feedOf, feedAll}
 use Rattle.meter.specs.declared.Meter.{Meter}
 use Rattle.meter.specs.declared.Fed.the-variants.{Next}
 
@@ -21,3 +22,11 @@ AllPieces = (m n : Meter) (pieces : List (List Float)) → feedOf m (flatten pie
 -- the count is the number of samples fed, over any number of feedings that are not refused
 abbrev pub CountIsFed : Type 0
 CountIsFed = (n : Meter) (pieces : List (List Float)) → feedAll newMeter pieces ≡ Next n → n .count ≡ length (flatten pieces)
+
+-- and the overs are the number of such samples among them
+abbrev pub OversAreFed : Type 0
+OversAreFed = (n : Meter) (pieces : List (List Float)) → feedAll newMeter pieces ≡ Next n → n .overs ≡ oversIn (flatten pieces)
+
+-- never more than the count, in a meter that feedings reach from a new one
+abbrev pub OversCounted : Type 0
+OversCounted = (n : Meter) (pieces : List (List Float)) → feedAll newMeter pieces ≡ Next n → n .overs ≤ n .count

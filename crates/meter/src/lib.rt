@@ -1,17 +1,29 @@
-// A meter of samples: their count, the sum of their squares, the least and the largest. Each feeding takes the meter and hands the next one back.
+// A meter of samples: their count, the overs among them, the sum of their squares, the least and the largest. Each feeding takes the meter and hands the next one back.
+ghost use mathlib.Core.Bool.{true};
 ghost use mathlib.Core.Path.{_≡_};
-ghost use Rattle.meter.specs.Meter.{soundMeter, newMeter, feedOf, fedTold};
+ghost use Prim.Native.Nat.{ℕ, _≤_, _<_};
+ghost use lib.ListN.{length};
+ghost use Rattle.lists.specs.Lists.{bit};
+ghost use Rattle.floats.specs.Floats.{finiteAt, firstNotFinite};
+ghost use Rattle.answer.specs.Limits.{elementLimit};
+ghost use Rattle.sum.specs.Sum.{sumFrom};
+ghost use Rattle.sum.specs.declared.SumOp.the-variants.{SumSquare};
+ghost use Rattle.meter.specs.Meter.{isOver, oversIn, soundMeter, newMeter, feedOf, fedTold};
 use answer::Refusal;
 use answer::limits::ELEMENT_LIMIT;
+use floats::bits::is_finite;
+use floats::scan::first_not_finite;
 use min_max::look;
-use sum::SumOp;
-use sum::folded;
 
 // The most samples that a meter counts; refusal 2 is for more.
 pub const COUNT_LIMIT: u32 = 4294967295;
 
+// A sample of this size or a larger one is an over.
+const FULL_SCALE: f32 = 1.0;
+
 pub struct Meter {
     pub count: u32,
+    pub overs: u32,
     pub sum_squares: f32,
     pub least: f32,
     pub largest: f32,
@@ -22,7 +34,7 @@ pub enum Fed {
     Refused(Refusal),
 }
 
-// No float of the meter is a NaN, and its sum of squares is not below zero.
+// No float of the meter is a NaN, its sum of squares is not below zero, and it has no more overs than samples.
 fn is_sound(m: Meter) -> bool
     ensures { λ r. ⌜ r ≡ soundMeter m ⌝ }
 {
@@ -35,7 +47,57 @@ fn is_sound(m: Meter) -> bool
     if m.largest != m.largest {
         return false;
     }
-    !(m.sum_squares < 0.0)
+    if m.sum_squares < 0.0 {
+        return false;
+    }
+    m.overs <= m.count
+}
+
+// 1 for an over, else 0. The compiler makes one comparison of the two.
+fn over(x: f32) -> u32
+    ensures over { λ r. ⌜ r ≡ bit (isOver x) ⌝ }
+    ensures small { λ r. ⌜ r ≤ 1 ⌝ }
+{
+    if (x >= FULL_SCALE) | (x <= -FULL_SCALE) {
+        1
+    } else {
+        0
+    }
+}
+
+// What one pass adds up.
+struct Sums {
+    squares: f32,
+    overs: u32,
+}
+
+// The squares from a held sum on, and the overs. An addition waits for the one before it, so counting beside it takes no time of its own.
+fn added(held: f32, src: &[f32]) -> Sums
+    requires { ⌜ length (now src) ≤ elementLimit ⌝ }
+    ensures squares { λ r. ⌜ r .squares ≡ sumFrom SumSquare held (now (src .entry)) ⌝ }
+    ensures overs { λ r. ⌜ r .overs ≡ oversIn (now (src .entry)) ⌝ }
+{
+    let mut squares = held;
+    let mut overs = 0;
+    let mut i = 0;
+    while i < src.len() {
+        let x = src[i];
+        squares = x * x + squares;
+        overs += over(x);
+        i += 1;
+    }
+    Sums { squares, overs }
+}
+
+// The first sample that is not finite, or their number; no search where it is shown that all are.
+fn first_bad(shown: bool, src: &[f32]) -> usize
+    requires { ⌜ (shown ≡ true → (i : ℕ) → i < length (now src) → finiteAt (now src) i ≡ true) ⌝ }
+    ensures { λ r. ⌜ r ≡ firstNotFinite (now (src .entry)) ⌝ }
+{
+    if shown {
+        return src.len();
+    }
+    first_not_finite(src)
 }
 
 impl Meter {
@@ -45,6 +107,7 @@ impl Meter {
         let top = floats::bits::infinity();
         Meter {
             count: 0,
+            overs: 0,
             sum_squares: 0.0,
             least: top,
             largest: -top,
@@ -65,15 +128,16 @@ impl Meter {
         if !is_sound(self) {
             return Fed::Refused(Refusal::NotFinite);
         }
-        let squares = folded(SumOp::SumSquare, self.sum_squares, src);
-        let bad = squares.bad;
+        let sums = added(self.sum_squares, src);
+        let bad = first_bad(is_finite(sums.squares), src);
         if bad < src.len() {
             return Fed::Refused(Refusal::Domain(bad));
         }
         let seen = look(self.least, self.largest, src);
         Fed::Next(Meter {
             count: count + samples,
-            sum_squares: squares.value,
+            overs: self.overs + sums.overs,
+            sum_squares: sums.squares,
             least: seen.least,
             largest: seen.largest,
         })

@@ -1,7 +1,7 @@
 // Feeds meters as stored cases say: one list whole, in halves and one by one, and feedings at the limits and past them.
-// A case is 18 words: 1 for the held meter, a new one at first, or 0 for the one that the next four give; how many samples are fed; and
-// the first twelve of them, after which each is 1. A line is number, place, and the meter that is held afterwards: count, sum of squares,
-// least and largest. The last line says how many cases there were. tools/meter_cases.py makes both files.
+// A case is 19 words: 1 for the held meter, a new one at first, or 0 for the one that the next five give; how many samples are fed; and
+// the first twelve of them, after which each is 1. A line is number, place, and the meter that is held afterwards: count, overs, sum of
+// squares, least and largest. The last line says how many cases there were. tools/meter_cases.py makes both files.
 ghost use mathlib.Core.Path.{_≡_};
 ghost use Prim.Native.Nat.{_≤_};
 ghost use lib.ListN.{length};
@@ -34,6 +34,8 @@ fn show(answer: Answer, m: Meter) {
     io::print_decimal(STDOUT_FILENO, place(answer) as u64);
     put(b' ');
     io::print_decimal(STDOUT_FILENO, m.count as u64);
+    put(b' ');
+    io::print_decimal(STDOUT_FILENO, m.overs as u64);
     show_float(m.sum_squares);
     show_float(m.least);
     show_float(m.largest);
@@ -62,9 +64,10 @@ fn meter_at(text: &[u8], at: usize, held: Meter) -> Meter
     }
     Meter {
         count: word(text, at + 1),
-        sum_squares: from_pattern(word(text, at + 2)),
-        least: from_pattern(word(text, at + 3)),
-        largest: from_pattern(word(text, at + 4)),
+        overs: word(text, at + 2),
+        sum_squares: from_pattern(word(text, at + 3)),
+        least: from_pattern(word(text, at + 4)),
+        largest: from_pattern(word(text, at + 5)),
     }
 }
 
@@ -81,16 +84,16 @@ fn case(text: &[u8], at: usize, held: Meter) -> Meter
     requires { ⌜ at ≤ 65536 ⌝ }
 {
     // There is room for 16,385.
-    let n = word(text, at + 5) as usize % 16386;
-    let src = samples(text, at + 6);
+    let n = word(text, at + 6) as usize % 16386;
+    let src = samples(text, at + 7);
     feed(meter_at(text, at, held), &src[..n])
 }
 
 fn run(text: &[u8]) {
-    let cases = places(text) / 18;
+    let cases = places(text) / 19;
     let mut held = Meter::new();
     for i in 0..cases {
-        held = case(text, i * 18, held);
+        held = case(text, i * 19, held);
     }
     io::print_decimal(STDOUT_FILENO, cases as u64);
     io::write_all(STDOUT_FILENO, b" cases\n");

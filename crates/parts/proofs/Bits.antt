@@ -5,7 +5,8 @@ use mathlib.Core.Bool.{Bool, true, false}
 use native.Mathlib.Omega.{arith}
 use borrow.Author.Tests.{ltb-true, ltb-false}
 use lib.Dec.{ltb}
-use Rattle.parts.specs.Parts.{bit, lt1}
+use Rattle.lists.specs.Lists.{bit}
+use Rattle.parts.specs.Parts.{lt1}
 
 -- by cases on the test
 pub by-lt {ℓ} : {P : Type ℓ} (a b : ℕ) → (a < b → lt1 a b ≡ 1 → P) → (b ≤ a → lt1 a b ≡ 0 → P) → P

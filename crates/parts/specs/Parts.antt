@@ -1,10 +1,10 @@
 -- N parts over the bands of a list of whole numbers, in the shares of its numbers (RULES, Split). Definitions only.
 use Prim.Native.Nat.{ℕ, _+_, _-_, _*_, _/_, _%_}
-use mathlib.Core.Bool.{Bool, true, false, _||_, _&&_}
+use mathlib.Core.Bool.{_||_, _&&_}
 use mathlib.Core.List.{List}
 use lib.Dec.{ltb, eqb}
 use lib.ListN.{length, getD}
-use Rattle.lists.specs.Lists.{sumTo, tab}
+use Rattle.lists.specs.Lists.{sumTo, bit, tab}
 
 abbrev pub at : List ℕ → ℕ → ℕ
 at xs i = getD xs i 0
@@ -12,11 +12,6 @@ at xs i = getD xs i 0
 -- the sum of a list; T of RULES, Split, for the list a
 unfoldable pub total : List ℕ → ℕ
 total xs = sumTo (at xs) (length xs)
-
--- a test as a number: 1 where it holds, else 0
-abbrev pub bit : Bool → ℕ
-bit true = 1
-bit false = 0
 
 -- 1 where a < b, else 0
 unfoldable pub lt1 : ℕ → ℕ → ℕ

@@ -24,9 +24,9 @@ pub enum SumOp {
 }
 
 // A fold, and the first place of its elements that is not finite, or their number.
-pub struct Looked {
-    pub value: f32,
-    pub bad: usize,
+struct Looked {
+    value: f32,
+    bad: usize,
 }
 
 pub struct Total {
@@ -73,8 +73,8 @@ fn shows_finite(op: SumOp) -> bool
     }
 }
 
-// From a held sum on; no search where the sum itself shows that all are finite. For the crates above.
-pub fn folded(op: SumOp, held: f32, src: &[f32]) -> Looked
+// From a held sum on; no search where the sum itself shows that all are finite.
+fn folded(op: SumOp, held: f32, src: &[f32]) -> Looked
     ensures value { λ r. ⌜ r .value ≡ sumFrom op held (now (src .entry)) ⌝ }
     ensures bad { λ r. ⌜ r .bad ≡ firstNotFinite (now (src .entry)) ⌝ }
 {

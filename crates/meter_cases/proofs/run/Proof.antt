@@ -4,7 +4,7 @@ use Rattle.meter_cases.proofs.run.Statement.{statement}
 use Rattle.meter_cases.proofs.run.Tie as tie
 
 abbrev Inv-loop : tie.InvT-loop
-Inv-loop text cases held₀ i₀ t5 held i = (i ≤ cases) × (cases ≤ 3640)
+Inv-loop text cases held₀ i₀ t5 held i = (i ≤ cases) × (cases ≤ 3449)
 
 abbrev μ-loop : tie.MeasureT-loop
 μ-loop text cases held₀ i₀ t5 held i = cases - i

@@ -11,11 +11,13 @@ use Rattle.masoritun.proofs.c_meter.mst_meter_feed.Statement.{statement
 use Rattle.masoritun.proofs.c_meter.mst_meter_feed.Tie as tie
 
 -- the meter that was handed in, and the samples
-abbrev held : tie.Start → Meter
-held c = meterAt (now (c .args .count)) (now (c .args .sum-squares)) (now (c .args .least)) (now (c .args .largest))
+abbrev held : tie.After-feed → Meter
+held call =
+    let x = call .before .before .before .before .args in
+    meterAt (now (x .count)) (now (x .overs)) (now (x .sum-squares)) (now (x .least)) (now (x .largest))
 
-abbrev samples : tie.Start → List Float
-samples c = now (c .args .src)
+abbrev samples : tie.After-feed → List Float
+samples call = now (call .before .before .before .before .args .src)
 
 feed-requires : tie.Need-feed-requires
 feed-requires c κs = search needs
@@ -29,17 +31,17 @@ enum-known-fed-2 c = search needs
 pack-requires : tie.Need-pack-requires
 pack-requires c κs =
     let call = c .before .before .before in
-    stood-fits (held (call .before .before .before)) (samples (call .before .before .before)) (call .feed .result) (call .feed .ensures) _ (c .before .fed2 .given .1)
+    stood-fits (held call) (samples call) (call .feed .result) (call .feed .ensures) _ (c .before .fed2 .given .1)
 
 returns : tie.Need-returns
 returns c =
     let call = c .before .before .before in
-    went-on (held (call .before .before .before)) (samples (call .before .before .before)) (call .feed .result) (call .feed .ensures) _ (c .before .fed .given .1)
+    went-on (held call) (samples call) (call .feed .result) (call .feed .ensures) _ (c .before .fed .given .1)
 
 returns-2 : tie.Need-returns-2
 returns-2 c =
     let call = c .before .before .before .before in
-    let why = stood (held (call .before .before .before)) (samples (call .before .before .before)) (call .feed .result) (call .feed .ensures) _ (c .before .before .fed2 .given .1) in
+    let why = stood (held call) (samples call) (call .feed .result) (call .feed .ensures) _ (c .before .before .fed2 .given .1) in
     (c .pack .ensures ∙ ap packed (why .0), why .1)
 
 pub mst-meter-feed-spec : {M : Type 1} → statement M

@@ -1,15 +1,26 @@
 -- Each refusal is the first test that holds; the count's is a difference in the code, so that nothing wraps, and a sum in the definition.
--- Past all of them the three folds are those of `nextOf`, as `folded` and `look` promise them.
+-- Past all of them the numbers are those of `nextOf`, as `added` and `look` promise them.
 use Prim.Native.Nat.{_+_, _≤_, _<_}
-use mathlib.Core.Path.{sym, _∙_, ap}
-use mathlib.Core.Bool.{not}
+use mathlib.Core.Path.{_≡_, sym, _∙_, ap, subst}
+use mathlib.Core.Bool.{true, not}
+use mathlib.Core.List.{List, [], _∷_}
 use native.Mathlib.Omega.{arith}
+use lib.Dec.{T, ltb}
+use lib.Ieee.{Float}
+use lib.Ieee.Scale.{finite}
 use lib.ListN.{length}
-use borrow.Author.Tests.{lt-ltb, le-ltb}
+use borrow.Author.Tests.{lt-ltb, le-ltb, not-false}
+use Rattle.floats.specs.Floats.{firstNotFinite}
+use Rattle.answer.specs.declared.Answer.{Answer}
 use Rattle.answer.specs.declared.Refusal.the-variants.{Domain}
-use Rattle.answer.proofs.Chain.{clear, stop, skip, found, found-none}
-use Rattle.meter.specs.Meter.{countLimit, fedTold}
+use Rattle.answer.proofs.Chain.{Gives, clear, stop, skip, found, found-none}
+use Rattle.sum.specs.declared.SumOp.the-variants.{SumSquare}
+use Rattle.sum.proofs.Shows.{shows-square, all-finite}
+use Rattle.meter.specs.Meter.{countLimit, soundMeter, tests, fedTold}
+use Rattle.meter.specs.declared.Meter.{Meter}
 use Rattle.meter.proofs.Feed.{feed-refused, feed-next, past-counts}
+use Rattle.meter.proofs.Overs.{overs-few}
+use Rattle.meter.proofs.Sound.{sound-parts}
 use borrow.Author.Needs.{needs}
 use Rattle.meter.proofs.Meter.feed.Statement.{statement}
 use Rattle.meter.proofs.Meter.feed.Tie as tie
@@ -41,19 +52,40 @@ returns-3 c =
     (feed-refused (x .self) (x .src .now)
     (past-counts (x .self) (x .src .now) (l .before .if1 .left) room (stop (ap not (sym (c .before .is-sound .ensures)) ∙ c .if3 .taken))))
 
-folded-requires : tie.Need-folded-requires
-folded-requires c κs = search needs
+-- past the first three tests: the meter, the samples, and what is known of them
+abbrev held : tie.Else3 → Meter
+held l = l .before .before .before .before .before .args .self
+
+abbrev samples : tie.Else3 → List Float
+samples l = l .before .before .before .before .before .args .src .now
+
+sound : (l : tie.Else3) → soundMeter (held l) ≡ true
+sound l = sym (l .before .is-sound .ensures) ∙ not-false _ (l .if3 .left)
+
+room : (l : tie.Else3) → held l .count + length (samples l) ≤ countLimit
+room l = omega arith
+
+past : (l : tie.Else3) {a : Answer} → Gives ((ltb (firstNotFinite (samples l)) (length (samples l)), Domain (firstNotFinite (samples l))) ∷ []) a
+    → Gives (tests (held l) (samples l)) a
+past l g = past-counts (held l) (samples l) (l .before .before .before .if1 .left) (room l) (skip (ap not (sound l)) g)
+
+added-requires : tie.Need-added-requires
+added-requires c κs = search needs
+
+is-finite-requires : tie.Need-is-finite-requires
+is-finite-requires c κs = search needs
+
+first-bad-requires : tie.Need-first-bad-requires
+first-bad-requires c κs h =
+    let l = c .before .before in
+    all-finite SumSquare (held l .«sum_squares») (samples l) shows-square
+    (ap finite (sym (c .before .added .ensures .0)) ∙ sym (c .is-finite .ensures) ∙ h)
 
 returns-4 : tie.Need-returns-4
 returns-4 c =
-    let l = c .before .before in
-    let x = l .before .before .before .before .before .args in
-    let room : x .self .count + length (x .src .now) ≤ countLimit = omega arith in
-    let sum = c .before .folded in
-    ap fedTold
-    (feed-refused (x .self) (x .src .now)
-    (past-counts (x .self) (x .src .now) (l .before .before .before .if1 .left) room
-    (skip (ap not (sym (l .before .is-sound .ensures)) ∙ l .if3 .left) (found Domain (sum .result .bad) (sum .ensures .1) (c .if4 .taken)))))
+    let l = c .before .before .before .before in
+    let first = c .before .first-bad in
+    ap fedTold (feed-refused (held l) (samples l) (past l (found Domain (first .result) (first .ensures) (c .if4 .taken))))
 
 look-requires : tie.Need-look-requires
 look-requires c κs = search needs
@@ -61,17 +93,23 @@ look-requires c κs = search needs
 add-t11 : tie.Need-add-t11
 add-t11 c = search needs
 
+add-t16 : tie.Need-add-t16
+add-t16 c =
+    let sum = c .before .before .before .before .before .before in
+    let l = sum .before in
+    let fits : held l .overs + sum .added .result .overs ≤ countLimit =
+    omega (arith, sound-parts (held l) (subst T (sym (sound l)) tt) .overs, overs-few (samples l), sum .added .ensures .1, room l) in
+    search needs
+
 returns-5 : tie.Need-returns-5
 returns-5 c =
-    let k = c .before in
-    let l = k .before .before in
-    let x = l .before .before .before .before .before .args in
-    let room : x .self .count + length (x .src .now) ≤ countLimit = omega arith in
-    let sum = k .before .folded in
+    let seen = c .before .before .look in
+    let first = c .before .before .before .before .first-bad in
+    let sum = c .before .before .before .before .before .before in
+    let l = sum .before in
     ap fedTold
-    (feed-next (x .self) (x .src .now) (cc (c .look .ensures .1 .0, c .look .ensures .0, sum .ensures .0))
-    (past-counts (x .self) (x .src .now) (l .before .before .before .if1 .left) room
-    (skip (ap not (sym (l .before .is-sound .ensures)) ∙ l .if3 .left) (found-none (sum .result .bad) (sum .ensures .1) (k .if4 .left) clear))))
+    (feed-next (held l) (samples l) (cc (seen .ensures .1 .0, seen .ensures .0, sum .added .ensures .0, sum .added .ensures .1))
+    (past l (found-none (first .result) (first .ensures) (c .before .before .before .if4 .left) clear)))
 
 pub feed-spec : {M : Type 1} → statement M
 feed-spec =
@@ -83,8 +121,11 @@ feed-spec =
     returns-2
     is-sound-requires
     returns-3
-    folded-requires
+    added-requires
+    is-finite-requires
+    first-bad-requires
     returns-4
     look-requires
     add-t11
+    add-t16
     returns-5)

@@ -1,0 +1,30 @@
+-- Overs: by two comparisons, over joined lists, of nothing, and never more than samples. Assumes nothing.
+use Prim.Native.Nat.{ℕ, _+_, _≤_}
+use mathlib.Core.Path.{_≡_, sym}
+use mathlib.Core.Bool.{_||_}
+use mathlib.Core.List.{List, [], _++_}
+use native.Mathlib.Omega.{arith}
+use lib.IntN.{pos}
+use lib.Ieee.{Float, nan, neg, le, ofBits}
+use lib.ListN.{length, getD}
+use Rattle.lists.specs.Lists.{bit}
+use Rattle.lists.proofs.Sum.{sum-none, sum-bits, sum-of-joined}
+use Rattle.floats.specs.Values.{oneF}
+use Rattle.floats.proofs.Size.{size-reaches}
+use Rattle.meter.specs.Meter.{isOver, oversIn}
+
+pub over-by-order : (x : Float) → isOver x ≡ le oneF x || le x (neg oneF)
+unfolding ofBits neg
+over-by-order x = size-reaches 1 (pos 0) x (omega arith)
+
+pub overs-append : (s t : List Float) → oversIn (s ++ t) ≡ oversIn s + oversIn t
+unfolding oversIn
+overs-append s t = sum-of-joined (λ x. bit (isOver x)) nan s t
+
+pub overs-none : oversIn [] ≡ 0
+unfolding oversIn
+overs-none = sym (sum-none _)
+
+pub overs-few : (s : List Float) → oversIn s ≤ length s
+unfolding oversIn
+overs-few s = sum-bits (λ i. isOver (getD s i nan)) (length s)
