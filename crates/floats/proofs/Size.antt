@@ -1,4 +1,4 @@
--- |x| is the larger of x and 0 - x: nothing is lost, and of the two zeros it is +0. Assumes nothing.
+-- |x| is the larger of x and 0 - x: nothing is lost, and of the two zeros it is +0. Its square, and what it reaches. Assumes nothing.
 use mathlib.Core.Path.{_≡_, refl, sym, _∙_, ap, subst}
 use mathlib.Core.Bool.{Bool, true, false, _||_, _&&_, true≢false, false≢true}
 use mathlib.Core.Logic.{inl, inr}
@@ -66,7 +66,6 @@ square-of-size f (inf false) = refl
 square-of-size f (fin true m e) = refl
 square-of-size f (fin false m e) = refl
 
--- a size reaches a number above zero where x reaches it, or x is at most its minus
 eqb-turn : (a b : ℕ) → eqb a b ≡ eqb b a
 eqb-turn a b = go (eqb b a) refl
   where
@@ -89,6 +88,7 @@ not-level a b p = go (eqb a b) refl
     go true e = ne-eqb a 0 (λ z. omega (arith, eqb-true a b e))
     go false e = refl
 
+-- a size reaches a number above zero where x does, or where x is at most its minus
 pub size-reaches : (n : ℕ) (d : ℤ) (x : Float) → 0 < n * up d → le (fin false n d) (absOf x) ≡ le (fin false n d) x || le x (fin true n d)
 unfolding le lt eq
 size-reaches n d nan p = refl
