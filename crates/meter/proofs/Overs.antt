@@ -1,17 +1,22 @@
--- Overs: by two comparisons, over joined lists, of nothing, and never more than samples. Assumes nothing.
+-- Overs: by hand, by two comparisons, over joined lists, of nothing, and never more than samples. Assumes nothing.
 use Prim.Native.Nat.{ℕ, _+_, _≤_}
-use mathlib.Core.Path.{_≡_, sym}
+use mathlib.Core.Path.{_≡_, refl, sym}
 use mathlib.Core.Bool.{_||_}
 use mathlib.Core.List.{List, [], _++_}
 use native.Mathlib.Omega.{arith}
 use lib.IntN.{pos}
-use lib.Ieee.{Float, nan, neg, le, ofBits}
+use lib.Ieee.{Float, nan, neg, lt, eq, le, ofBits}
 use lib.ListN.{length, getD}
 use Rattle.lists.specs.Lists.{bit}
 use Rattle.lists.proofs.Sum.{sum-none, sum-bits, sum-of-joined}
 use Rattle.floats.specs.Values.{oneF}
 use Rattle.floats.proofs.Size.{size-reaches}
 use Rattle.meter.specs.Meter.{isOver, oversIn}
+use Rattle.meter.specs.Claims.{FullScale}
+
+pub full-scale : FullScale
+unfolding ofBits le lt eq
+full-scale = (refl, refl, refl, refl, refl, refl)
 
 pub over-by-order : (x : Float) → isOver x ≡ le oneF x || le x (neg oneF)
 unfolding ofBits neg

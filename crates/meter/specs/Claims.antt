@@ -1,10 +1,12 @@
 -- The claims on feedings in pieces. Statements only.
 use Prim.Native.Nat.{_≤_}
 use mathlib.Core.Path.{_≡_}
+use mathlib.Core.Bool.{true, false}
 use mathlib.Core.List.{List, _++_, flatten}
 use lib.Ieee.{Float}
 use lib.ListN.{length}
-use Rattle.meter.specs.Meter.{oversIn, newMeter, feedOf, feedAll}
+use Rattle.floats.specs.Values.{f32}
+use Rattle.meter.specs.Meter.{isOver, oversIn, newMeter, feedOf, feedAll}
 use Rattle.meter.specs.declared.Meter.{Meter}
 use Rattle.meter.specs.declared.Fed.the-variants.{Next}
 
@@ -30,3 +32,9 @@ OversAreFed = (n : Meter) (pieces : List (List Float)) → feedAll newMeter piec
 -- never more than the count, in a meter that feedings reach from a new one
 abbrev pub OversCounted : Type 0
 OversCounted = (n : Meter) (pieces : List (List Float)) → feedAll newMeter pieces ≡ Next n → n .overs ≤ n .count
+
+-- by hand: 1.0 and -1.0 are overs; the f32 below 1.0 in size, -0 and the largest subnormal are not
+abbrev pub FullScale : Type 0
+FullScale =
+    (isOver (f32 0x3f80_0000) ≡ true) × (isOver (f32 0xbf80_0000) ≡ true) × (isOver (f32 0x3f7f_ffff) ≡ false) × (isOver (f32 0xbf7f_ffff) ≡ false)
+    × (isOver (f32 0x8000_0000) ≡ false) × (isOver (f32 0x007f_ffff) ≡ false)
