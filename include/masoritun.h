@@ -41,8 +41,8 @@ enum {
     MST_DONE = 0,           /* done */
     MST_LENGTH = 1,         /* lent slices differ from the needed length */
     MST_TOO_MANY = 2,       /* over 16,384 elements, or the meter's count would pass 4,294,967,295 */
-    MST_NOT_FINITE = 3,     /* alpha, offset, inv_scale or a setting not finite; meter
-                               float NaN, sum of squares below zero or more overs than samples */
+    MST_NOT_FINITE = 3,     /* alpha, offset, inv_scale or a setting not finite; meter float NaN, sum of squares below zero
+                               or more overs than samples */
     MST_DOMAIN = 4,         /* element outside the domain; place: the first such */
     MST_MASKED = 5,         /* all masked: split; or softmax of one or more elements, flush off */
     MST_RESULT = 6,         /* normalize would yield NaN; place: the first such */
