@@ -1,11 +1,11 @@
 -- The bit patterns of f32: no NaN, the sign, the range, and the fraction that a pattern stands for. Assumes nothing.
 use mathlib.Core.Path.{_≡_, refl, sym, _∙_, ap, subst}
-use mathlib.Core.Bool.{Bool, true, false, not, _&&_, true≢false, false≢true}
+use mathlib.Core.Bool.{Bool, true, false, not, Bool·not-not, _&&_, true≢false, false≢true}
 use Prim.Native.Nat.{ℕ, zero, suc, _+_, _*_, _/_, _%_, _^_, _<_, _≤_}
 use native.Mathlib.Omega.{arith}
 use lib.Dec.{T, eqb}
 use lib.IntN.{ℤ}
-use lib.Ieee.{Float, nan, inf, fin, Format, up, down, binary32, fits, isNan, nanBits, ofBits, toBits, ne, lt, neg}
+use lib.Ieee.{Float, nan, inf, fin, Format, up, down, binary32, fits, isNan, nanBits, ofBits, toBits, eq, ne, lt, neg}
 use lib.Ieee.Bits.{ofBits-toBits, toBits-lt, nanBits-is, nanBits-above}
 use lib.Ieee.Compare.{differs-from-itself}
 use lib.Ieee.Scale.{finite}
@@ -21,14 +21,18 @@ no-nan nan h = absurd (true≢false h)
 no-nan (inf s) h = tt
 no-nan (fin s m e) h = tt
 
--- the test `x != x` asks for a NaN
+-- the test `x == x` asks for a number, and `x != x` for a NaN
+pub number-test : (x : Float) → eq x x ≡ not (isNan x)
+unfolding eq isNan
+number-test nan = refl
+number-test (inf true) = refl
+number-test (inf false) = refl
+number-test (fin true m e) = rw (eq-eqb (m * up e * down e) (m * up e * down e) refl)
+number-test (fin false m e) = rw (eq-eqb (m * up e * down e) (m * up e * down e) refl)
+
 pub nan-test : (x : Float) → ne x x ≡ isNan x
-unfolding ne isNan
-nan-test nan = refl
-nan-test (inf true) = refl
-nan-test (inf false) = refl
-nan-test (fin true m e) = rw (eq-eqb (m * up e * down e) (m * up e * down e) refl)
-nan-test (fin false m e) = rw (eq-eqb (m * up e * down e) (m * up e * down e) refl)
+unfolding ne
+nan-test x = ap not (number-test x) ∙ Bool·not-not (isNan x)
 
 pub is-nan : (x : Float) → ne x x ≡ true → x ≡ nan
 is-nan x h = differs-from-itself x (subst T (sym h) tt)

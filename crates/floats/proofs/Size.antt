@@ -1,6 +1,6 @@
 -- |x| is the larger of x and 0 - x: nothing is lost, and of the two zeros it is +0. Its square, and what it reaches. Assumes nothing.
 use mathlib.Core.Path.{_≡_, refl, sym, _∙_, ap, subst}
-use mathlib.Core.Bool.{Bool, true, false, _||_, _&&_, true≢false, false≢true}
+use mathlib.Core.Bool.{Bool, true, false, _||_, _&&_, or-false, true≢false, false≢true}
 use mathlib.Core.Logic.{inl, inr}
 use Prim.Native.Nat.{ℕ, _+_, _*_, _<_}
 use native.Mathlib.Nat.{zero-mul, mul-one, one-mul, zero-add, sub-zero, mul-pos, eq-zero-or-pos}
@@ -73,13 +73,6 @@ eqb-turn a b = go (eqb b a) refl
     go true e = eq-eqb a b (sym (eqb-true b a e))
     go false e = ne-eqb a b (λ h. eqb-false b a e (sym h))
 
-or-none : (t u : Bool) → u ≡ false → t ≡ t || u
-or-none true u e = refl
-or-none false u e = sym e
-
-none-or : (t u : Bool) → t ≡ false → u ≡ t || u
-none-or t u e = rw e
-
 -- unlike signs are level at zero alone
 not-level : (a b : ℕ) → 0 < a + b → eqb a b && eqb a 0 ≡ false
 not-level a b p = go (eqb a b) refl
@@ -96,9 +89,9 @@ size-reaches n d (inf true) p = refl
 size-reaches n d (inf false) p = refl
 size-reaches n d (fin false m e) p =
     let q = mul-pos p (down-pos e) in
-    or-none _ _ (not-level (m * up e * down d) (n * up d * down e) (omega arith))
+    sym (ap (le (fin false n d) (fin false m e) ||_) (not-level (m * up e * down d) (n * up d * down e) (omega arith)) ∙ or-false _)
 size-reaches n d (fin true m e) p =
     let q = mul-pos p (down-pos e) in
     let a = n * up d * down e in
     let b = m * up e * down d in
-    ap (λ t. ltb a b || (t && true)) (eqb-turn a b) ∙ none-or (eqb a b && eqb a 0) _ (not-level a b (omega arith))
+    ap (λ t. ltb a b || (t && true)) (eqb-turn a b) ∙ sym (ap (_|| (ltb a b || (eqb b a && true))) (not-level a b (omega arith)))

@@ -35,3 +35,14 @@ pub fn first_not_finite(src: &[f32]) -> usize
     }
     i
 }
+
+// The same, with no look where it is shown that every element is finite.
+pub fn first_unless_shown(shown: bool, src: &[f32]) -> usize
+    requires { ⌜ (shown ≡ true → (i : ℕ) → i < length (now src) → finiteAt (now src) i ≡ true) ⌝ }
+    ensures { λ r. ⌜ r ≡ firstNotFinite (now (src .entry)) ⌝ }
+{
+    if shown {
+        return src.len();
+    }
+    first_not_finite(src)
+}

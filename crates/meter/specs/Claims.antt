@@ -1,4 +1,4 @@
--- The claims on feedings in pieces. Statements only.
+-- The claims on feedings in pieces and on overs. Statements only.
 use Prim.Native.Nat.{_≤_}
 use mathlib.Core.Path.{_≡_}
 use mathlib.Core.Bool.{true, false}
@@ -33,7 +33,7 @@ OversAreFed = (n : Meter) (pieces : List (List Float)) → feedAll newMeter piec
 abbrev pub OversCounted : Type 0
 OversCounted = (n : Meter) (pieces : List (List Float)) → feedAll newMeter pieces ≡ Next n → n .overs ≤ n .count
 
--- by hand: 1.0 and -1.0 are overs; the f32 below 1.0 in size, -0 and the largest subnormal are not
+-- by hand: 1.0 and -1.0 are overs; the f32 next below them in size, -0 and the largest subnormal are not
 abbrev pub FullScale : Type 0
 FullScale =
     (isOver (f32 0x3f80_0000) ≡ true) × (isOver (f32 0xbf80_0000) ≡ true) × (isOver (f32 0x3f7f_ffff) ≡ false) × (isOver (f32 0xbf7f_ffff) ≡ false)

@@ -1,10 +1,8 @@
 // A meter of samples: their count, the overs among them, the sum of their squares, the least and the largest. Each feeding takes the meter and hands the next one back.
-ghost use mathlib.Core.Bool.{true};
 ghost use mathlib.Core.Path.{_≡_};
-ghost use Prim.Native.Nat.{ℕ, _≤_, _<_};
+ghost use Prim.Native.Nat.{_≤_};
 ghost use lib.ListN.{length};
 ghost use Rattle.lists.specs.Lists.{bit};
-ghost use Rattle.floats.specs.Floats.{finiteAt, firstNotFinite};
 ghost use Rattle.answer.specs.Limits.{elementLimit};
 ghost use Rattle.sum.specs.Sum.{sumFrom};
 ghost use Rattle.sum.specs.declared.SumOp.the-variants.{SumSquare};
@@ -12,7 +10,7 @@ ghost use Rattle.meter.specs.Meter.{isOver, oversIn, soundMeter, newMete
 use answer::Refusal;
 use answer::limits::ELEMENT_LIMIT;
 use floats::bits::is_finite;
-use floats::scan::first_not_finite;
+use floats::scan::first_unless_shown;
 use min_max::look;
 
 // The most samples that a meter counts; refusal 2 is for more.
@@ -34,23 +32,16 @@ pub enum Fed {
     Refused(Refusal),
 }
 
-// No float of the meter is a NaN, its sum of squares is not below zero, and it has no more overs than samples.
+// No float of the meter is a NaN, which is unlike itself, its sum of squares is not below zero, and it has no more overs than samples.
 fn is_sound(m: Meter) -> bool
     ensures { λ r. ⌜ r ≡ soundMeter m ⌝ }
 {
-    if m.sum_squares != m.sum_squares {
-        return false;
-    }
-    if m.least != m.least {
-        return false;
-    }
-    if m.largest != m.largest {
-        return false;
-    }
-    if m.sum_squares < 0.0 {
-        return false;
-    }
-    m.overs <= m.count
+    let numbers = (m.sum_squares == m.sum_squares)
+        & (m.least == m.least)
+        & (m.largest == m.largest);
+    let not_below = !(m.sum_squares < 0.0);
+    let few_overs = m.overs <= m.count;
+    numbers & not_below & few_overs
 }
 
 // 1 for an over, else 0. The compiler makes one comparison of the two.
@@ -89,17 +80,6 @@ fn added(held: f32, src: &[f32]) -> Sums
     Sums { squares, overs }
 }
 
-// The first sample that is not finite, or their number; no search where it is shown that all are.
-fn first_bad(shown: bool, src: &[f32]) -> usize
-    requires { ⌜ (shown ≡ true → (i : ℕ) → i < length (now src) → finiteAt (now src) i ≡ true) ⌝ }
-    ensures { λ r. ⌜ r ≡ firstNotFinite (now (src .entry)) ⌝ }
-{
-    if shown {
-        return src.len();
-    }
-    first_not_finite(src)
-}
-
 impl Meter {
     pub fn new() -> Meter
         ensures { λ r. ⌜ r ≡ newMeter ⌝ }
@@ -129,7 +109,8 @@ impl Meter {
             return Fed::Refused(Refusal::NotFinite);
         }
         let sums = added(self.sum_squares, src);
-        let bad = first_bad(is_finite(sums.squares), src);
+        // a finite sum of squares shows finite samples
+        let bad = first_unless_shown(is_finite(sums.squares), src);
         if bad < src.len() {
             return Fed::Refused(Refusal::Domain(bad));
         }

@@ -6,6 +6,7 @@ use native.Mathlib.Omega.{arith}
 use borrow.Author.Tests.{ltb-true, ltb-false}
 use lib.Dec.{ltb}
 use Rattle.lists.specs.Lists.{bit}
+use Rattle.lists.proofs.Sum.{bit-small}
 use Rattle.parts.specs.Parts.{lt1}
 
 -- by cases on the test
@@ -24,7 +25,8 @@ pub lt1-no : {a b : ℕ} → b ≤ a → lt1 a b ≡ 0
 lt1-no {a} {b} h = by-lt a b (λ p e. omega arith) (λ p e. e)
 
 pub lt1-small : (a b : ℕ) → lt1 a b ≤ 1
-lt1-small a b = by-lt a b (λ p e. omega arith) (λ p e. omega arith)
+unfolding lt1
+lt1-small a b = bit-small (ltb a b)
 
 pub lt1-mono : (a b a′ b′ : ℕ) → b + a′ ≤ b′ + a → lt1 a b ≤ lt1 a′ b′
 lt1-mono a b a′ b′ h = by-lt a b (λ p e. omega (arith, lt1-yes {a = a′} {b = b′} (omega arith))) (λ p e. omega arith)

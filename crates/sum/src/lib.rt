@@ -12,7 +12,7 @@ use answer::Answer;
 use answer::Refusal;
 use answer::limits::ELEMENT_LIMIT;
 use floats::bits::is_finite;
-use floats::scan::first_not_finite;
+use floats::scan::first_unless_shown;
 
 // The last two hold the offset that is taken from each element.
 pub enum SumOp {
@@ -79,15 +79,7 @@ fn folded(op: SumOp, held: f32, src: &[f32]) -> Looked
     ensures bad { λ r. ⌜ r .bad ≡ firstNotFinite (now (src .entry)) ⌝ }
 {
     let value = sum_from(op, held, src);
-    if shows_finite(op) {
-        if is_finite(value) {
-            return Looked {
-                value,
-                bad: src.len(),
-            };
-        }
-    }
-    let bad = first_not_finite(src);
+    let bad = first_unless_shown(shows_finite(op) & is_finite(value), src);
     Looked { value, bad }
 }
 

@@ -1,10 +1,6 @@
-use mathlib.Core.Path.{_≡_, sym, _∙_, subst}
-use mathlib.Core.Bool.{true}
-use denote.Ref.{now}
+use mathlib.Core.Path.{sym, _∙_, ap}
+use mathlib.Core.Bool.{and-eq-true-iff}
 use lib.Ieee.Scale.{finite}
-use lib.ListN.{length}
-use Rattle.lists.proofs.First.{first-end}
-use Rattle.sum.specs.Sum.{sumFrom}
 use Rattle.sum.proofs.Shows.{all-finite}
 use borrow.Author.Needs.{needs}
 use Rattle.sum.proofs.folded.Statement.{statement}
@@ -19,23 +15,15 @@ shows-finite-requires c κs = search needs
 is-finite-requires : tie.Need-is-finite-requires
 is-finite-requires c κs = search needs
 
+first-unless-shown-requires : tie.Need-first-unless-shown-requires
+first-unless-shown-requires c κs h =
+    let x = c .before .before .before .before .args in
+    let shows = c .before .shows-finite in
+    let both = and-eq-true-iff (shows .result) (c .is-finite .result) .0 h in
+    all-finite (x .op) (x .held) (x .src .now) (shows .ensures (both .0)) (ap finite (sym (c .before .before .sum-from .ensures)) ∙ sym (c .is-finite .ensures) ∙ both .1)
+
 returns : tie.Need-returns
-returns c =
-    let l = c .before .before .before in
-    let x = l .before .before .before .args in
-    let s = now (x .src) in
-    let n = length s in
-    let shown : finite (sumFrom (x .op) (x .held) s) ≡ true =
-    subst (λ v. finite v ≡ true) (l .before .sum-from .ensures) (sym (c .before .is-finite .ensures) ∙ c .if2 .taken) in (
-      l .before .sum-from .ensures,
-      first-end _ n n (search needs) (search needs) (all-finite (x .op) (x .held) s (l .shows-finite .ensures (c .before .before .if1 .taken)) shown),
-    )
-
-first-not-finite-requires : tie.Need-first-not-finite-requires
-first-not-finite-requires c κs = search needs
-
-returns-2 : tie.Need-returns-2
-returns-2 c = search needs
+returns c = search needs
 
 pub folded-spec : {M : Type 1} → statement M
 folded-spec =
@@ -44,6 +32,5 @@ folded-spec =
     sum-from-requires
     shows-finite-requires
     is-finite-requires
-    returns
-    first-not-finite-requires
-    returns-2)
+    first-unless-shown-requires
+    returns)

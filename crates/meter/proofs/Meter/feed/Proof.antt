@@ -75,8 +75,8 @@ added-requires c κs = search needs
 is-finite-requires : tie.Need-is-finite-requires
 is-finite-requires c κs = search needs
 
-first-bad-requires : tie.Need-first-bad-requires
-first-bad-requires c κs h =
+first-unless-shown-requires : tie.Need-first-unless-shown-requires
+first-unless-shown-requires c κs h =
     let l = c .before .before in
     all-finite SumSquare (held l .«sum_squares») (samples l) shows-square
     (ap finite (sym (c .before .added .ensures .0)) ∙ sym (c .is-finite .ensures) ∙ h)
@@ -84,7 +84,7 @@ first-bad-requires c κs h =
 returns-4 : tie.Need-returns-4
 returns-4 c =
     let l = c .before .before .before .before in
-    let first = c .before .first-bad in
+    let first = c .before .first-unless-shown in
     ap fedTold (feed-refused (held l) (samples l) (past l (found Domain (first .result) (first .ensures) (c .if4 .taken))))
 
 look-requires : tie.Need-look-requires
@@ -104,7 +104,7 @@ add-t16 c =
 returns-5 : tie.Need-returns-5
 returns-5 c =
     let seen = c .before .before .look in
-    let first = c .before .before .before .before .first-bad in
+    let first = c .before .before .before .before .first-unless-shown in
     let sum = c .before .before .before .before .before .before in
     let l = sum .before in
     ap fedTold
@@ -123,7 +123,7 @@ feed-spec =
     returns-3
     added-requires
     is-finite-requires
-    first-bad-requires
+    first-unless-shown-requires
     returns-4
     look-requires
     add-t11

@@ -2,8 +2,8 @@ use denote.Ref.{now}
 use lib.ListN.{length}
 use Rattle.lists.proofs.First.{first-end}
 use borrow.Author.Needs.{needs}
-use Rattle.meter.proofs.first_bad.Statement.{statement}
-use Rattle.meter.proofs.first_bad.Tie as tie
+use Rattle.floats.proofs.scan.first_unless_shown.Statement.{statement}
+use Rattle.floats.proofs.scan.first_unless_shown.Tie as tie
 
 returns : tie.Need-returns
 returns c =
@@ -17,5 +17,5 @@ first-not-finite-requires c κs = search needs
 returns-2 : tie.Need-returns-2
 returns-2 c = search needs
 
-pub first-bad-spec : {M : Type 1} → statement M
-first-bad-spec = tie.close (tie.spec returns first-not-finite-requires returns-2)
+pub first-unless-shown-spec : {M : Type 1} → statement M
+first-unless-shown-spec = tie.close (tie.spec returns first-not-finite-requires returns-2)
