@@ -198,6 +198,39 @@ def overs():
     yield "kept: count 0, overs 1, sum of squares, least and largest " + " ".join(hexes([0, INF, MINUS_INF]))
 
 
+# ---- peaks.c
+
+def strictly_beyond(patterns, beyond):
+    """Document 01's fold: a later one is held only if it lies strictly beyond the held one."""
+    held = patterns[0]
+    for x in patterns[1:]:
+        if beyond(exact.value(x), exact.value(held)):
+            held = x
+    return held
+
+
+def extremes(name, patterns):
+    return f"{name}: " + " ".join(hexes([strictly_beyond(patterns, lambda x, y: x < y), strictly_beyond(patterns, lambda x, y: x > y)]))
+
+
+def peaks():
+    draw = drawn()
+    wave = [pattern(Fraction(next(draw) >> 8, 2**24)) for _ in range(20000)]
+    wave[50], wave[700] = exact.SIGN, 0
+    groupings = ["chunks, " + how for how in ("all at once", "one by one", "by halves")]
+    for name in "1500 samples", *groupings:
+        yield extremes(name, wave[:1500])
+    turned, end = [], 1500
+    for length in 1023, 41, 5, 333, 0, 97, 1:
+        turned += wave[end - length:end]
+        end -= length
+    yield extremes("chunks in the reverse order", turned)
+    yield "equal numbers: yes"
+    yield line("20000 samples", 2, 0)
+    for name in groupings:
+        yield extremes(name, wave)
+
+
 # ---- ftz.c, callback.cpp
 
 def small_weights():
@@ -230,6 +263,6 @@ def callback():
     yield "refused: count 4, flushing as the host set it: yes"
 
 
-for example in calls, refusals, split_table, null_test, overs, ftz, callback:
+for example in calls, refusals, split_table, null_test, overs, peaks, ftz, callback:
     with open(f"examples/expected/{example.__name__}.txt", "w", encoding="ascii") as file:
         file.writelines(text + "\n" for text in example())

@@ -62,6 +62,10 @@ folds! {
 ///
 /// Domain: all but NaN.
 ///
+/// Peaks may be gathered in any grouping: [`min_num`] of the chunks' least ones and [`max_num`] of their largest are those of the whole,
+/// to the bit, also where the whole is longer than one call takes. In another order of the chunks they are equal as numbers; a zero may
+/// change sign.
+///
 /// # Errors
 ///
 /// The first that holds.
@@ -74,6 +78,10 @@ folds! {
 /// ```
 /// assert_eq!(masoritun::min_max(&[1.0, -2.0, 0.5]), Ok((-2.0, 1.0)));
 /// assert_eq!(masoritun::min_max(&[]), Ok((f32::INFINITY, f32::NEG_INFINITY)));
+///
+/// let (first, second) = (masoritun::min_max(&[1.0, -2.0])?, masoritun::min_max(&[0.5])?);
+/// assert_eq!((masoritun::min_num(&[first.0, second.0])?, masoritun::max_num(&[first.1, second.1])?), (-2.0, 1.0));
+/// # Ok::<(), masoritun::Refusal>(())
 /// ```
 pub fn min_max(src: &[f32]) -> Result<(f32, f32), Refusal> {
     let (mut least, mut largest) = (0.0, 0.0);

@@ -203,6 +203,15 @@ le-lt-trans x y z h k =
     nle→lt z x (lt-numbers y z k .1) (le-numbers x y h .0)
     (not-T (le z x) (λ (l : T (le z x)). T-not (le z y) (lt→nle y z k) (le-trans-f z x y l h)))
 
+-- values that are each at most the other are equal as numbers
+pub le-both : (x y : Float) → T (le x y) → T (le y x) → T (eq x y)
+unfolding le
+le-both x y h k = go (lt x y) refl h
+  where
+    go : (b : Bool) → lt x y ≡ b → T (b || eq x y) → T (eq x y)
+    go true e t = absurd (T-not (le y x) (lt→nle x y (subst T (sym e) tt)) k)
+    go false e t = t
+
 -- ---- a failed test of two numbers, as a program has it
 pub not-le : (x y : Float) → T (not (isNan x)) → T (not (isNan y)) → le x y ≡ false → T (le y x)
 not-le x y p q h = lt→le y x (nle→lt x y p q (subst (λ b. T (not b)) (sym h) tt))

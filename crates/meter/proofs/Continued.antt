@@ -13,6 +13,7 @@ use Rattle.answer.specs.declared.Answer.the-variants.{Done}
 use Rattle.answer.proofs.Chain.{gives, clear, skip, none-found}
 use Rattle.answer.proofs.Told.{tells-done}
 use Rattle.min_max.specs.MinMax.{extremesAnswer, extremesTold, minMaxTold}
+use Rattle.min_max.proofs.Taken.{takes}
 use Rattle.sum.specs.Sum.{addUpAnswer, totalTold, addUpTold}
 use Rattle.sum.specs.declared.SumOp.the-variants.{SumSquare}
 use Rattle.meter.specs.Meter.{newMeter, nextOf, feedOf}
@@ -31,8 +32,7 @@ unfolding addUpAnswer
 sum-takes m s a = gives (skip (le-ltb _ _ (a .few)) (skip refl (none-found (a .each-finite) clear)))
 
 extremes-take : (m : Meter) (s : List Float) → Accepted m s → Done ≡ extremesAnswer s
-unfolding extremesAnswer
-extremes-take m s a = gives (skip (le-ltb _ _ (a .few)) (none-found (λ i h. is-true _ (each-number s (a .each-finite) i h)) clear))
+extremes-take m s a = takes s (record { few = a .few; numbers = λ i h. is-true _ (each-number s (a .each-finite) i h) })
 
 -- of a new meter they are what `add_up` and `min_max` answer
 pub new-fed : (n : Meter) (s : List Float) → feedOf newMeter s ≡ Next n

@@ -1,13 +1,13 @@
 -- Where the joined feeding isn't refused no piece is, and feeding the pieces in order gives the same meter. Assumes nothing.
-use Prim.Native.Nat.{_+_}
+use mathlib.Core.Bool.{true}
 use mathlib.Core.Path.{_≡_, sym, _∙_, ap}
 use mathlib.Core.List.{List, [], _∷_, _++_, flatten}
 use native.Mathlib.Nat.{add-assoc, add-zero}
 use native.Mathlib.Omega.{arith}
-use lib.Ieee.{Float, nan}
+use lib.Ieee.{Float}
 use lib.Ieee.Scale.{finite}
-use lib.ListN.{length, length-append, List·getD-append}
-use lib.Seq.{getD-append-add}
+use lib.ListN.{length-append}
+use Rattle.floats.proofs.Each.{each-left, each-right}
 use Rattle.min_max.proofs.Fold.{extreme-append, extreme-none}
 use Rattle.sum.proofs.Fold.{sum-append, sum-none}
 use Rattle.meter.specs.Meter.{nextOf, feedAll}
@@ -25,6 +25,9 @@ next-append m s t = simp (length-append, overs-append, add-assoc, sum-append, ex
 next-none : (m : Meter) → nextOf m [] ≡ m
 next-none m = simp (overs-none, add-zero, sum-none, extreme-none)
 
+abbrev Finite : Float → Type 0
+Finite x = finite x ≡ true
+
 module _ (m : Meter) (s t : List Float) (a : Accepted m (s ++ t)) where
   first-accepted : Accepted m s
   first-accepted =
@@ -33,7 +36,7 @@ module _ (m : Meter) (s t : List Float) (a : Accepted m (s ++ t)) where
         few = omega (arith, a .few);
         room = omega (arith, a .room);
         sound = a .sound;
-        each-finite = λ i h. ap finite (sym (List·getD-append s t nan i h)) ∙ a .each-finite i (omega arith);
+        each-finite = each-left Finite s t (a .each-finite);
       }
 
   second-accepted : Accepted (nextOf m s) t
@@ -43,7 +46,7 @@ module _ (m : Meter) (s t : List Float) (a : Accepted m (s ++ t)) where
         few = omega (arith, a .few);
         room = omega (arith, a .room);
         sound = next-sound m s first-accepted;
-        each-finite = λ i h. ap finite (sym (getD-append-add s t i nan)) ∙ a .each-finite (length s + i) (omega arith);
+        each-finite = each-right Finite s t (a .each-finite);
       }
 
 pub two-pieces : TwoPieces

@@ -16,7 +16,8 @@ use Rattle.floats.proofs.Sign.{finite-number}
 use Rattle.floats.proofs.Order.{le-numbers, lt→nle, nlt→le}
 use Rattle.floats.proofs.NotNegative.{square-add-le}
 use Rattle.floats.specs.Values.{zeroF}
-use Rattle.min_max.proofs.Fold.{extreme-number}
+use Rattle.min_max.specs.MinMax.{Least, Largest}
+use Rattle.min_max.proofs.Joined.{extreme-number}
 use Rattle.sum.specs.declared.SumOp.the-variants.{SumSquare}
 use Rattle.sum.proofs.Fold.{sum-keeps}
 use Rattle.meter.specs.Meter.{soundMeter, nextOf}
@@ -69,11 +70,10 @@ each-number s p i h = finite-number _ (subst T (sym (p i h)) tt)
 pub next-parts : (m : Meter) (s : List Float) → Accepted m s → Sound (nextOf m s)
 next-parts m s a =
     let p = sound-parts m (subst T (sym (a .sound)) tt) in
-    let number = each-number s (a .each-finite) in
     record {
       sum = sum-keeps SumSquare (λ b. T (le zeroF b)) (λ b x k f. square-add-le b x k (finite-number x f)) s (a .each-finite) (m .«sum_squares») (p .sum);
-      least = extreme-number _ s number (m .least) (p .least);
-      largest = extreme-number _ s number (m .largest) (p .largest);
+      least = extreme-number Least (m .least) s (p .least);
+      largest = extreme-number Largest (m .largest) s (p .largest);
       overs = omega (arith, p .overs, overs-few s);
     }
 

@@ -1,6 +1,9 @@
 pub mod Fold
+pub mod Sides
 pub mod Joined
+pub mod Reached
 pub mod Runs
 pub mod Determined
 pub mod Empty
+pub mod Taken
 pub mod Place

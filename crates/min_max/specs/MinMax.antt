@@ -14,20 +14,37 @@ use Rattle.floats.specs.Values.{zeroF}
 use Rattle.min_max.specs.declared.Extremes.{Extremes}
 use Rattle.min_max.specs.declared.Extreme.{Extreme}
 
--- an element replaces the held value only if it lies strictly beyond it
-abbrev pub keep : (Float → Float → Bool) → Float → Float → Float
-keep beyond held x = cond (beyond x held) x held
+-- the two sides
+pub data Side : Type 0 where
+  Least Largest : Side
+
+-- x lies strictly beyond y: below it, or above it
+abbrev pub beyond : Side → Float → Float → Bool
+beyond Least x y = lt x y
+beyond Largest x y = lt y x
+
+-- what a fold holds before the first element: every other number lies beyond it
+abbrev pub startOf : Side → Float
+startOf Least = inf false
+startOf Largest = inf true
+
+-- an element, or another answer, replaces the held value only if it lies strictly beyond it
+abbrev pub keep : Side → Float → Float → Float
+keep side held x = cond (beyond side x held) x held
 
 -- every element in order, from a held value on
-unfoldable pub extremeFrom : (Float → Float → Bool) → Float → List Float → Float
-extremeFrom beyond held s = foldl (keep beyond) held s
+unfoldable pub extremeFrom : Side → Float → List Float → Float
+extremeFrom side held s = foldl (keep side) held s
 
--- the two sides: x lies below the held value, or above it
 abbrev pub leastFrom : Float → List Float → Float
-leastFrom held s = extremeFrom (λ x held. lt x held) held s
+leastFrom held s = extremeFrom Least held s
 
 abbrev pub largestFrom : Float → List Float → Float
-largestFrom held s = extremeFrom (λ x held. lt held x) held s
+largestFrom held s = extremeFrom Largest held s
+
+-- the extreme of a list
+abbrev pub extremeOf : Side → List Float → Float
+extremeOf side s = extremeFrom side (startOf side) s
 
 -- the domain: all but NaN
 abbrev pub numberAt : List Float → ℕ → Bool
@@ -50,12 +67,12 @@ extremesTold r = (toldOf (r .answer), (r .least, r .largest))
 abbrev pub extremeTold : Extreme → (ℕ × ℕ) × Float
 extremeTold r = (toldOf (r .answer), r .value)
 
--- what each call tells: the folds from the infinities, +0 for each number where it is refused
+-- what each call tells: the extremes, +0 for each number where it is refused
 abbrev pub minMaxTold : List Float → (ℕ × ℕ) × (Float × Float)
-minMaxTold s = toldWith (extremesAnswer s) (leastFrom (inf false) s, largestFrom (inf true) s) (zeroF, zeroF)
+minMaxTold s = toldWith (extremesAnswer s) (extremeOf Least s, extremeOf Largest s) (zeroF, zeroF)
 
 abbrev pub maxNumTold : List Float → (ℕ × ℕ) × Float
-maxNumTold s = toldWith (extremesAnswer s) (largestFrom (inf true) s) zeroF
+maxNumTold s = toldWith (extremesAnswer s) (extremeOf Largest s) zeroF
 
 abbrev pub minNumTold : List Float → (ℕ × ℕ) × Float
-minNumTold s = toldWith (extremesAnswer s) (leastFrom (inf false) s) zeroF
+minNumTold s = toldWith (extremesAnswer s) (extremeOf Least s) zeroF

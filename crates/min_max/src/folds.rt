@@ -3,21 +3,20 @@ ghost use mathlib.Core.Bool.{true, false};
 ghost use mathlib.Core.List.{_++_};
 ghost use mathlib.Core.Path.{_≡_};
 ghost use Prim.Native.Nat.{ℕ, _<_};
-ghost use lib.Ieee.{lt};
 ghost use lib.ListN.{length};
-ghost use Rattle.min_max.specs.MinMax.{keep, leastFrom, largestFrom, numberAt};
+ghost use Rattle.min_max.specs.MinMax.{Least, Largest, keep, leastFrom, largestFrom, numberAt};
 use crate::Seen;
 use floats::bits::infinity;
 
 // The next held value: x where it lies strictly beyond the held one.
 fn lower(held: f32, x: f32) -> f32
-    ensures { λ r. ⌜ r ≡ keep (λ y h. lt y h) held x ⌝ }
+    ensures { λ r. ⌜ r ≡ keep Least held x ⌝ }
 {
     if x < held { x } else { held }
 }
 
 fn higher(held: f32, x: f32) -> f32
-    ensures { λ r. ⌜ r ≡ keep (λ y h. lt h y) held x ⌝ }
+    ensures { λ r. ⌜ r ≡ keep Largest held x ⌝ }
 {
     if x > held { x } else { held }
 }

@@ -1,26 +1,26 @@
 -- The maximum of finite or masked elements: finite, at least every element, and an element or `f32::MIN`. Assumes nothing.
-use Prim.Native.Nat.{suc, suc-le-suc}
-use native.Mathlib.Nat.{zero-lt-suc, not-suc-le-zero}
-use mathlib.Core.Path.{_≡_, refl, sym, _∙_, subst}
+use mathlib.Core.Path.{_≡_, refl, sym, subst}
 use mathlib.Core.Logic.{_⊎_, inl, inr}
-use mathlib.Core.Bool.{Bool, true, false, cond}
-use mathlib.Core.List.{List, [], _∷_, foldl}
+use mathlib.Core.Bool.{Bool, true, false, not, cond}
+use mathlib.Core.List.{List}
 use lib.Dec.{T}
 use lib.ListN.{length, getD}
-use lib.Ieee.{Float, nan, inf, fin, binary32, sub, neg, lt, le, ofBits}
+use lib.Ieee.{Float, nan, inf, fin, binary32, sub, neg, lt, le, ofBits, isNan}
 use lib.Ieee.Scale.{finite}
 use lib.Ieee.Bits.{is-true}
 use Rattle.floats.specs.Values.{zeroF, f32Min}
 use Rattle.floats.proofs.Sign.{finite-number}
 use Rattle.floats.proofs.Signed.{minus-inf, at-most→le}
-use Rattle.floats.proofs.Order.{le-refl-f, le-trans-f, lt→le, not-lt, le-not-lt}
+use Rattle.floats.proofs.Order.{le-refl-f, not-lt, le-not-lt}
 use Rattle.floats.proofs.Monotone.{sub-mono}
 use Rattle.floats.proofs.Exact.{sub-self-f}
 use Rattle.floats.proofs.Least.{min-finite}
-use Rattle.min_max.specs.MinMax.{keep, extremeFrom}
+use Rattle.lists.proofs.Fold.{fold-keeps}
+use Rattle.min_max.specs.MinMax.{Largest, keep, extremeFrom, largestFrom}
+use Rattle.min_max.proofs.Joined.{start-last, extreme-number}
+use Rattle.min_max.proofs.Reached.{reached}
 use Rattle.softmax.specs.Softmax.{maxOf, inDomain}
 use Rattle.floats.specs.Each.{Each, Some}
-use Rattle.floats.proofs.Each.{each-first, each-rest, each-cons}
 use Rattle.softmax.proofs.Domain.{in-domain}
 
 -- finite or masked
@@ -37,70 +37,44 @@ masked-minus nan h = absurd h
 masked-minus (inf s) h = absurd h
 masked-minus (fin s n e) h = refl
 
--- the larger of two, the held one where neither is
-abbrev larger : Float → Float → Float
-larger held x = keep (λ y h. lt h y) held x
+in-domain-number : (x : Float) → InDomain x → T (not (isNan x))
+unfolding isNan
+in-domain-number x d = elim (in-domain x d) [ inl q ↦ finite-number x q | inr q ↦ rw q tt ]
 
--- ---- one step: h is the larger of m and x
-record Held (m x h : Float) : Type 0 where
-  fine : T (finite h)
-  old : T (le m h)
-  new : T (le x h)
-  either : (h ≡ m) ⊎ (h ≡ x)
-
-held-finite : (m x : Float) → T (finite m) → T (finite x) → Held m x (larger m x)
-held-finite m x p q = go (lt m x) refl
-  where
-    go : (b : Bool) → lt m x ≡ b → Held m x (cond b x m)
-    go true e =
-        record { fine = q; old = lt→le m x (subst T (sym e) tt); new = le-refl-f x (finite-number x q); either = inr refl }
-    go false e =
-        record { fine = p; old = le-refl-f m (finite-number m p); new = not-lt m x (finite-number m p) (finite-number x q) e; either = inl refl }
-
--- a masked element never replaces the held one
-larger-masked : (m : Float) → T (finite m) → larger m (inf true) ≡ m
-unfolding lt
-larger-masked nan p = absurd p
-larger-masked (inf s) p = absurd p
-larger-masked (fin s n e) p = refl
-
-held : (m x : Float) → T (finite m) → InDomain x → Held m x (larger m x)
-held m x p d = elim (in-domain x d) [
-  | inl q ↦ held-finite m x p q
-  | inr q ↦ subst (λ y. Held m y (larger m y)) (sym q) (subst (Held m (inf true)) (sym (larger-masked m p)) same)
+-- a step keeps a finite value finite: a masked element is the fold's start, which replaces nothing
+keeps-finite : (m x : Float) → T (finite m) → InDomain x → T (finite (keep Largest m x))
+keeps-finite m x p d = elim (in-domain x d) [
+  | inl q ↦ either (lt m x) q
+  | inr q ↦ rw (q, start-last Largest m) p
 ]
   where
-    same : Held m (inf true) m
-    same = record { fine = p; old = le-refl-f m (finite-number m p); new = masked-le m p; either = inl refl }
+    either : (b : Bool) → T (finite x) → T (finite (cond b x m))
+    either true q = q
+    either false q = p
 
--- ---- the fold
 pub record Max (m : Float) (s : List Float) (h : Float) : Type 0 where
   pub fine : T (finite h)
   pub old : T (le m h)
   pub all : Each (λ x. T (le x h)) s
   pub one-of : (h ≡ m) ⊎ Some (λ x. h ≡ x) s
 
-max-from : (s : List Float) (m : Float) → T (finite m) → Each InDomain s → Max m s (foldl larger m s)
-max-from [] m p d =
-    record { fine = p; old = le-refl-f m (finite-number m p); all = λ i h. absurd (not-suc-le-zero h); one-of = inl refl }
-max-from (x ∷ s) m p d =
-    let h = held m x p (each-first InDomain x s d) in
-    let k = larger m x in
-    let r = max-from s k (h .fine) (each-rest InDomain x s d) in
-    let t = foldl larger k s in
+max-from : (s : List Float) (m : Float) → T (finite m) → Each InDomain s → Max m s (largestFrom m s)
+unfolding extremeFrom
+max-from s m p d =
+    let n = finite-number m p in
+    let h = largestFrom m s in
+    let k = extreme-number Largest m s n in
+    let r = reached Largest m s n in
     record {
-      fine = r .fine;
-      old = le-trans-f m k t (h .old) (r .old);
-      all = each-cons (λ y. T (le y t)) x s (le-trans-f x k t (h .new) (r .old)) (r .all);
-      one-of = elim (r .one-of) [
-        | inl e ↦ elim (h .either) [ inl a ↦ inl (e ∙ a) | inr b ↦ inr (0, zero-lt-suc (length s), e ∙ b) ]
-        | inr a ↦ inr (suc (a .0), suc-le-suc (a .1), a .2)
-      ];
+      fine = fold-keeps (keep Largest) (λ x. T (finite x)) InDomain keeps-finite nan s d m p;
+      old = not-lt h m k n (r .old);
+      all = λ i l. not-lt h (getD s i nan) k (in-domain-number _ (d i l)) (r .all i l);
+      one-of = r .one-of;
     }
 
 module _ (s : List Float) (d : Each InDomain s) where
   pub max-is : Max f32Min s (maxOf s)
-  unfolding maxOf extremeFrom
+  unfolding maxOf
   max-is = max-from s f32Min min-finite d
 
   -- an element less the maximum is not above zero

@@ -2,16 +2,16 @@
 use Prim.Native.Nat.{_-_}
 use mathlib.Core.Path.{ap}
 use mathlib.Core.Bool.{true}
-use lib.Ieee.{neg, inf, lt}
+use lib.Ieee.{neg}
 use lib.ListN.{length}
-use Rattle.min_max.proofs.Joined.{largest-side}
+use Rattle.min_max.specs.MinMax.{Largest}
 use Rattle.min_max.proofs.Runs.{Chains, chains-none, chains-more, chains-end}
 use borrow.Author.Needs.{needs}
 use Rattle.min_max.proofs.folds.largest_four.Statement.{statement}
 use Rattle.min_max.proofs.folds.largest_four.Tie as tie
 
 abbrev Inv-loop : tie.InvT-loop
-Inv-loop held a b c d end high-a₀ high-b₀ high-c₀ high-d₀ i₀ high-a high-b high-c high-d i = Chains (λ x h. lt h x) (inf true) held a b c d high-a high-b high-c high-d i
+Inv-loop held a b c d end high-a₀ high-b₀ high-c₀ high-d₀ i₀ high-a high-b high-c high-d i = Chains Largest held a b c d high-a high-b high-c high-d i
 
 abbrev μ-loop : tie.MeasureT-loop
 μ-loop held a b c d end high-a₀ high-b₀ high-c₀ high-d₀ i₀ high-a high-b high-c high-d i = length a - i
@@ -85,7 +85,7 @@ returns : tie.Need-returns Inv-loop μ-loop
 returns c =
     let l = c .before .before .before .before in
     let start = l .before .before .before .before .before .before in
-    chains-end (start .pre) (l .loop .inv) largest-side (c .before .before .before .loop-test .left)
+    chains-end (start .pre) (l .loop .inv) (c .before .before .before .loop-test .left)
     (c .before .before .higher5 .ensures) (c .before .higher6 .ensures) (c .higher7 .ensures)
 
 pub largest-four-spec : {M : Type 1} → statement M

@@ -2,10 +2,10 @@
 use Prim.Native.Nat.{_-_}
 use mathlib.Core.Path.{ap}
 use mathlib.Core.Bool.{true, false}
-use lib.Ieee.{neg, inf, lt}
+use lib.Ieee.{neg}
 use lib.ListN.{length}
 use Rattle.lists.proofs.First.{Looked, looked-none, looked-by, looked-end}
-use Rattle.min_max.proofs.Joined.{least-side, largest-side}
+use Rattle.min_max.specs.MinMax.{Least, Largest}
 use Rattle.min_max.proofs.Runs.{Chains, chains-none, chains-more, chains-end, numbersAt, four-test, numbers-four}
 use borrow.Author.Needs.{needs}
 use Rattle.min_max.proofs.folds.look_four.Statement.{statement}
@@ -13,8 +13,8 @@ use Rattle.min_max.proofs.folds.look_four.Tie as tie
 
 abbrev Inv-loop : tie.InvT-loop
 Inv-loop least largest a b c d top low-a₀ low-b₀ low-c₀ low-d₀ high-a₀ high-b₀ high-c₀ high-d₀ nan₀ i₀ low-a low-b low-c low-d high-a high-b high-c high-d nan i =
-    Chains (λ x h. lt x h) (inf false) least a b c d low-a low-b low-c low-d i
-    × (Chains (λ x h. lt h x) (inf true) largest a b c d high-a high-b high-c high-d i × Looked (numbersAt a b c d) nan i)
+    Chains Least least a b c d low-a low-b low-c low-d i
+    × (Chains Largest largest a b c d high-a high-b high-c high-d i × Looked (numbersAt a b c d) nan i)
 
 abbrev μ-loop : tie.MeasureT-loop
 μ-loop least largest a b c d top low-a₀ low-b₀ low-c₀ low-d₀ high-a₀ high-b₀ high-c₀ high-d₀ nan₀ i₀ low-a low-b low-c low-d high-a high-b high-c high-d nan i = length a - i
@@ -123,9 +123,9 @@ returns c =
     let s = start .args in
     let end = low .before .before .before .loop-test .left in
     let inv = l .loop .inv in (
-      chains-end (start .pre) (inv .0) least-side end (low .before .before .lower5 .ensures) (low .before .lower6 .ensures) (low .lower7 .ensures),
+      chains-end (start .pre) (inv .0) end (low .before .before .lower5 .ensures) (low .before .lower6 .ensures) (low .lower7 .ensures),
       (
-        chains-end (start .pre) (inv .1 .0) largest-side end (c .before .before .higher5 .ensures) (c .before .higher6 .ensures) (c .higher7 .ensures),
+        chains-end (start .pre) (inv .1 .0) end (c .before .before .higher5 .ensures) (c .before .higher6 .ensures) (c .higher7 .ensures),
         λ e. numbers-four (s .a .now) (s .b .now) (s .c .now) (s .d .now) (start .pre) (looked-end _ _ _ (l .loop .i) (inv .1 .1) end e),
       ),
     )
