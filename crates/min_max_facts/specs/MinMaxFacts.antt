@@ -27,7 +27,7 @@ AllChunks = (side : Side) (chunks : List (List Float)) → extremeOf side (map (
 abbrev pub AnswerIsNumber : Type 0
 AnswerIsNumber = (side : Side) (s : List Float) → T (not (isNan (extremeOf side s)))
 
--- and of numbers it doesn't matter which two are joined first
+-- and of numbers it doesn't matter which two are joined first; only the middle one has to be a number
 abbrev pub AnyGrouping : Type 0
 AnyGrouping = (side : Side) (x y z : Float) → T (not (isNan y)) → keep side (keep side x y) z ≡ keep side x (keep side y z)
 
@@ -36,6 +36,10 @@ abbrev pub EmptyAnswer : Type 0
 EmptyAnswer = (side : Side) (x : Float) → T (not (isNan x)) → (keep side (extremeOf side []) x ≡ x) × (keep side x (extremeOf side []) ≡ x)
 
 -- ---- order, as numbers
+
+-- two numbers joined the other way round are equal
+abbrev pub Turned : Type 0
+Turned = (side : Side) (x y : Float) → T (not (isNan x)) → T (not (isNan y)) → T (eq (keep side x y) (keep side y x))
 
 -- each element of s stands somewhere in t
 abbrev pub Within : List Float → List Float → Type 0
@@ -55,7 +59,7 @@ OnlyZeros =
     → eq (extremeOf side s) zeroF ≡ false
     → extremeOf side s ≡ extremeOf side t
 
--- and a zero does change sign: of +0 and -0 the first stays, on either side
+-- a zero may change sign; the smallest example, on either side: of +0 and -0 the first stays
 abbrev pub ZeroTurns : Type 0
 ZeroTurns =
     let minusZero = f32 0x8000_0000 in

@@ -4,7 +4,7 @@ use mathlib.Core.Logic.{_⊎_, inl, inr}
 use mathlib.Core.Bool.{Bool, true, false, not, cond}
 use mathlib.Core.List.{List}
 use lib.Dec.{T}
-use lib.ListN.{length, getD}
+use lib.ListN.{getD}
 use lib.Ieee.{Float, nan, inf, fin, binary32, sub, neg, lt, le, ofBits, isNan}
 use lib.Ieee.Scale.{finite}
 use lib.Ieee.Bits.{is-true}

@@ -1,7 +1,6 @@
 -- Each run keeps its own fold up to i (`Chains`); at the end the four, joined in order, are the fold over all (`chains-end`).
 use Prim.Native.Nat.{_-_}
 use mathlib.Core.Path.{ap}
-use mathlib.Core.Bool.{true}
 use lib.Ieee.{neg}
 use lib.ListN.{length}
 use Rattle.min_max.specs.MinMax.{Largest}

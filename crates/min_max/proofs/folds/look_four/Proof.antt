@@ -1,7 +1,6 @@
 -- Each run keeps its two folds up to i (`Chains`), the flag what all four showed (`Looked`); at the end the folds, joined in order, are the fold over all (`chains-end`).
 use Prim.Native.Nat.{_-_}
 use mathlib.Core.Path.{ap}
-use mathlib.Core.Bool.{true, false}
 use lib.Ieee.{neg}
 use lib.ListN.{length}
 use Rattle.lists.proofs.First.{Looked, looked-none, looked-by, looked-end}
