@@ -110,9 +110,9 @@ uint64_t mst_sum_exp_sub(float offset, const float *src, size_t n, float *result
 
 /* ---- Extremes: an element replaces the held one only if strictly beyond it. The domain is all but NaN. Each refuses 2, 4.
 
-   Peaks may be gathered in any grouping: mst_min_num of the chunks' least ones and mst_max_num of their largest are those of the whole,
-   to the bit, also where the whole is longer than one call takes. In another order of the chunks the numbers are equal; a zero may
-   change sign (examples/peaks.c). */
+   Peaks may be gathered in any grouping: mst_min_num of the chunks' least ones and mst_max_num of their largest, in the chunks' order,
+   are those of the whole, to the bit, also where the whole is longer than one call takes. In another order the numbers are equal; a
+   zero may change sign (examples/peaks.c). */
 
 /* Least and largest; of nothing +infinity and -infinity. Both: written on every call, +0 where it refuses. */
 uint64_t mst_min_max(const float *src, size_t n, float *least, float *largest);

@@ -62,9 +62,9 @@ folds! {
 ///
 /// Domain: all but NaN.
 ///
-/// Peaks may be gathered in any grouping: [`min_num`] of the chunks' least ones and [`max_num`] of their largest are those of the whole,
-/// to the bit, also where the whole is longer than one call takes. In another order of the chunks they are equal as numbers; a zero may
-/// change sign.
+/// Peaks may be gathered in any grouping: [`min_num`] of the chunks' least ones and [`max_num`] of their largest, in the chunks' order,
+/// are those of the whole, to the bit, also where the whole is longer than one call takes. In another order they are equal as numbers;
+/// a zero may change sign.
 ///
 /// # Errors
 ///
