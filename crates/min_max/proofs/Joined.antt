@@ -4,10 +4,9 @@ use mathlib.Core.Path.{_≡_, refl, sym, ap, _∙_}
 use mathlib.Core.Bool.{Bool, true, false, not, cond}
 use mathlib.Core.List.{List, [], _∷_, _++_}
 use lib.Dec.{T}
-use lib.Ieee.{Float, nan, isNan}
-use Rattle.lists.proofs.Fold.{fold-keeps}
+use lib.Ieee.{Float, isNan}
 use Rattle.min_max.specs.MinMax.{Side, beyond, startOf, keep, extremeFrom, extremeOf}
-use Rattle.min_max.proofs.Fold.{extreme-append}
+use Rattle.min_max.proofs.Fold.{extreme-append, extreme-keeps}
 use Rattle.min_max.proofs.Sides.{beyond-through, beyond-outside, beyond-self, beyond-number, start-number, past-start, start-only}
 
 module _ (side : Side) where
@@ -40,9 +39,11 @@ module _ (side : Side) where
       go false e = n
 
   pub extreme-number : (held : Float) (s : List Float) → T (not (isNan held)) → T (not (isNan (extremeFrom side held s)))
+  extreme-number held s n = extreme-keeps side (λ x. T (not (isNan x))) (λ x. Unit {0}) (λ h x p q. keep-number h x p) held s (λ i h. tt) n
+
+  pub extreme-one : (x : Float) → T (not (isNan x)) → extremeOf side (x ∷ []) ≡ x
   unfolding extremeFrom
-  extreme-number held s n =
-      fold-keeps (keep side) (λ (x : Float). T (not (isNan x))) (λ (x : Float). Unit {0}) (λ b x p q. keep-number b x p) nan s (λ i h. tt) held n
+  extreme-one x n = start-first x n
 
   -- an element as the answer of its own list
   by-start : (held x : Float) → keep side held x ≡ keep side held (keep side (startOf side) x)

@@ -14,6 +14,7 @@ use Rattle.floats.proofs.Pattern.{nan-test}
 use Rattle.min_max.specs.MinMax.{Side, startOf, keep, extremeFrom, extremeOf, numberAt}
 use Rattle.min_max.proofs.Fold.{extreme-more, extreme-end, extreme-append}
 use Rattle.min_max.proofs.Joined.{two-joined}
+use Rattle.min_max.proofs.Taken.{Number}
 
 abbrev pub Alike : List Float → List Float → List Float → List Float → Type 0
 Alike a b c d = (length a ≡ length b) × ((length a ≡ length c) × (length a ≡ length d))
@@ -53,9 +54,6 @@ module _ {side : Side} {held : Float} where
         join u v e f g = g ∙ ap₂ (keep side) e f ∙ sym (two-joined side held u v)
 
 -- ---- no NaN: the places of all four in one test
-abbrev Number : Float → Type 0
-Number x = not (isNan x) ≡ true
-
 abbrev pub numbersAt : List Float → List Float → List Float → List Float → ℕ → Bool
 numbersAt a b c d i = numberAt a i && numberAt b i && numberAt c i && numberAt d i
 

@@ -13,9 +13,13 @@ use Rattle.answer.specs.declared.Answer.the-variants.{Done}
 use Rattle.answer.proofs.Chain.{gives, clear, skip, opened, none-found}
 use Rattle.min_max.specs.MinMax.{extremesAnswer}
 
+-- as a test has it
+abbrev pub Number : Float → Type 0
+Number x = not (isNan x) ≡ true
+
 pub record Taken (s : List Float) : Type 0 where
   pub few : length s ≤ elementLimit
-  pub numbers : Each (λ x. not (isNan x) ≡ true) s
+  pub numbers : Each Number s
 
 pub takes : (s : List Float) → Taken s → Done ≡ extremesAnswer s
 unfolding extremesAnswer

@@ -3,10 +3,9 @@ use Prim.Native.Nat.{zero, suc, suc-le-suc}
 use native.Mathlib.Nat.{zero-lt-suc, not-suc-le-zero, le-of-suc-le-suc}
 use native.Mathlib.Omega.{arith}
 use mathlib.Core.Path.{_≡_, refl, sym, ap, ap₂, _∙_}
-use mathlib.Core.Bool.{true, not}
 use mathlib.Core.List.{List, [], _∷_, _++_, map, flatten}
 use lib.ListN.{length, length-append, length-map}
-use lib.Ieee.{Float, isNan}
+use lib.Ieee.{Float}
 use lib.Ieee.Bits.{is-true}
 use Rattle.answer.specs.Answer.{toldWith}
 use Rattle.answer.specs.declared.Answer.the-variants.{Done}
@@ -15,16 +14,13 @@ use Rattle.floats.specs.Values.{zeroF}
 use Rattle.floats.specs.Each.{Each}
 use Rattle.floats.proofs.Each.{each-cons, each-left, each-right}
 use Rattle.min_max.specs.MinMax.{Side, Least, Largest, extremeOf, extremesAnswer, minMaxTold}
-use Rattle.min_max.proofs.Taken.{takes, taken}
+use Rattle.min_max.proofs.Taken.{Number, takes, taken}
 use Rattle.min_max_facts.specs.MinMaxFacts.{JoinedCall, EachDone, ChunksDone, sideTold, OneSide, ChunksCall, joined}
 use Rattle.min_max_facts.proofs.Grouping.{two-pieces, all-chunks, answer-is-number}
 
 -- a call that is done tells the extremes
 done-told : (s : List Float) → Done ≡ extremesAnswer s → minMaxTold s ≡ ((0, 0), (extremeOf Least s, extremeOf Largest s))
 done-told s d = sym (ap (λ a. toldWith a (extremeOf Least s, extremeOf Largest s) (zeroF, zeroF)) d)
-
-abbrev Number : Float → Type 0
-Number x = not (isNan x) ≡ true
 
 pub joined-call : JoinedCall
 joined-call s t d =

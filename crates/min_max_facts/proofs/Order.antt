@@ -1,7 +1,7 @@
 -- Order doesn't matter as numbers: the same elements have equal extremes, and of f32s only a zero may change sign. Assumes nothing.
 use Prim.Native.Nat.{zero, suc}
 use native.Mathlib.Omega.{arith}
-use mathlib.Core.Path.{_≡_, refl, sym, ap, ap₂, subst, _∙_}
+use mathlib.Core.Path.{_≡_, refl, sym, ap₂, subst, _∙_}
 use mathlib.Core.Logic.{inl, inr}
 use mathlib.Core.Bool.{Bool, true, false, not, true≢false}
 use mathlib.Core.List.{List, [], _∷_}
@@ -13,10 +13,10 @@ use Rattle.floats.specs.Each.{Each}
 use Rattle.floats.proofs.Order.{le-antisym, le-both, not-lt}
 use Rattle.min_max.specs.MinMax.{Side, Least, Largest, beyond, startOf, keep, extremeFrom, extremeOf}
 use Rattle.min_max.proofs.Sides.{start-number}
-use Rattle.min_max.proofs.Joined.{start-first}
+use Rattle.min_max.proofs.Joined.{extreme-one}
 use Rattle.min_max.proofs.Reached.{Reached, reached}
 use Rattle.min_max_facts.specs.MinMaxFacts.{Turned, Within, AnyOrder, OnlyZeros, ZeroTurns}
-use Rattle.min_max_facts.proofs.Grouping.{answer-is-number}
+use Rattle.min_max_facts.proofs.Grouping.{two-pieces, answer-is-number}
 
 from-start : (side : Side) (s : List Float) → Reached side (startOf side) s (extremeOf side s)
 from-start side s = reached side (startOf side) s (start-number side)
@@ -41,9 +41,8 @@ pub any-order : AnyOrder
 any-order side s t v w = let l = level side s t v w in le-both _ _ (l .0) (l .1)
 
 -- ---- two numbers, as the list of them
-of-two : (side : Side) (x y : Float) → T (not (isNan x)) → extremeOf side (x ∷ y ∷ []) ≡ keep side x y
-unfolding extremeFrom
-of-two side x y p = ap (λ h. keep side h y) (start-first side x p)
+of-two : (side : Side) (x y : Float) → T (not (isNan x)) → T (not (isNan y)) → extremeOf side (x ∷ y ∷ []) ≡ keep side x y
+of-two side x y p q = two-pieces side (x ∷ []) (y ∷ []) ∙ ap₂ (keep side) (extreme-one side x p) (extreme-one side y q)
 
 other-way : (x y : Float) → Within (x ∷ y ∷ []) (y ∷ x ∷ [])
 other-way x y zero h = (1, omega arith, refl)
@@ -52,7 +51,7 @@ other-way x y (suc (suc i)) h = absurd (omega arith)
 
 pub turned : Turned
 turned side x y p q =
-    subst T (ap₂ eq (of-two side x y p) (of-two side y x q)) (any-order side (x ∷ y ∷ []) (y ∷ x ∷ []) (other-way x y) (other-way y x))
+    subst T (ap₂ eq (of-two side x y p q) (of-two side y x q p)) (any-order side (x ∷ y ∷ []) (y ∷ x ∷ []) (other-way x y) (other-way y x))
 
 -- ---- to the bit
 abbrev Fits : Float → Type 0

@@ -15,8 +15,8 @@ use Rattle.floats.proofs.Order.{le-refl-f, not-lt, le-not-lt}
 use Rattle.floats.proofs.Monotone.{sub-mono}
 use Rattle.floats.proofs.Exact.{sub-self-f}
 use Rattle.floats.proofs.Least.{min-finite}
-use Rattle.lists.proofs.Fold.{fold-keeps}
-use Rattle.min_max.specs.MinMax.{Largest, keep, extremeFrom, largestFrom}
+use Rattle.min_max.specs.MinMax.{Largest, keep, largestFrom}
+use Rattle.min_max.proofs.Fold.{extreme-keeps}
 use Rattle.min_max.proofs.Joined.{start-last, extreme-number}
 use Rattle.min_max.proofs.Reached.{reached}
 use Rattle.softmax.specs.Softmax.{maxOf, inDomain}
@@ -59,14 +59,13 @@ pub record Max (m : Float) (s : List Float) (h : Float) : Type 0 where
   pub one-of : (h ≡ m) ⊎ Some (λ x. h ≡ x) s
 
 max-from : (s : List Float) (m : Float) → T (finite m) → Each InDomain s → Max m s (largestFrom m s)
-unfolding extremeFrom
 max-from s m p d =
     let n = finite-number m p in
     let h = largestFrom m s in
     let k = extreme-number Largest m s n in
     let r = reached Largest m s n in
     record {
-      fine = fold-keeps (keep Largest) (λ x. T (finite x)) InDomain keeps-finite nan s d m p;
+      fine = extreme-keeps Largest (λ x. T (finite x)) InDomain keeps-finite m s d p;
       old = not-lt h m k n (r .old);
       all = λ i l. not-lt h (getD s i nan) k (in-domain-number _ (d i l)) (r .all i l);
       one-of = r .one-of;
