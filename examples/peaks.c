@@ -75,8 +75,11 @@ int main(void) {
     wave[50] = -0.0f;
     wave[700] = 0.0f;
 
-    for (size_t i = 0; i < CHUNKS; start += lengths[i++])
-        turned[CHUNKS - 1 - i] = chunks[i] = of_samples(wave + start, lengths[i]);
+    for (size_t i = 0; i < CHUNKS; i++) {
+        chunks[i] = of_samples(wave + start, lengths[i]);
+        turned[CHUNKS - 1 - i] = chunks[i];
+        start += lengths[i];
+    }
     whole = of_samples(wave, TAKE);
     show_peaks("1500 samples", whole);
     show_groupings(chunks);
