@@ -32,7 +32,7 @@ unfolding addUpAnswer
 sum-takes m s a = gives (skip (le-ltb _ _ (a .few)) (skip refl (none-found (a .each-finite) clear)))
 
 extremes-take : (m : Meter) (s : List Float) → Accepted m s → Done ≡ extremesAnswer s
-extremes-take m s a = takes s (record { few = a .few; numbers = λ i h. is-true _ (each-number s (a .each-finite) i h) })
+extremes-take m s a = takes s (record { few = a .few; domain = λ i h. is-true _ (each-number s (a .each-finite) i h) })
 
 -- of a new meter they are what `add_up` and `min_max` answer
 pub new-fed : (n : Meter) (s : List Float) → feedOf newMeter s ≡ Next n

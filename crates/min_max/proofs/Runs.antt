@@ -14,7 +14,7 @@ use Rattle.floats.proofs.Pattern.{nan-test}
 use Rattle.min_max.specs.MinMax.{Side, startOf, keep, extremeFrom, extremeOf, numberAt}
 use Rattle.min_max.proofs.Fold.{extreme-more, extreme-end, extreme-append}
 use Rattle.min_max.proofs.Joined.{two-joined}
-use Rattle.min_max.proofs.Taken.{Number}
+use Rattle.min_max.proofs.Taken.{InDomain}
 
 abbrev pub Alike : List Float → List Float → List Float → List Float → Type 0
 Alike a b c d = (length a ≡ length b) × ((length a ≡ length c) × (length a ≡ length d))
@@ -67,9 +67,9 @@ four-test w x y z = simp (nan-test, none)
 pub numbers-four : (a b c d : List Float) → Alike a b c d → Passed (numbersAt a b c d) (length a)
     → Passed (numberAt (a ++ b ++ c ++ d)) (length (a ++ b ++ c ++ d))
 numbers-four a b c d alike p =
-    let first = each-append Number a b (λ i h. ab i h .0) (λ i h. ab i (omega arith) .1) in
-    let more = each-append Number (a ++ b) c first (λ i h. abc i (omega arith) .1) in
-    each-append Number (a ++ b ++ c) d more (λ i h. all i (omega arith) .1)
+    let first = each-append InDomain a b (λ i h. ab i h .0) (λ i h. ab i (omega arith) .1) in
+    let more = each-append InDomain (a ++ b) c first (λ i h. abc i (omega arith) .1) in
+    each-append InDomain (a ++ b ++ c) d more (λ i h. all i (omega arith) .1)
   where
     all : (i : ℕ) → i < length a → ((numberAt a i && numberAt b i && numberAt c i) ≡ true) × (numberAt d i ≡ true)
     all i h = and-eq-true-iff (numberAt a i && numberAt b i && numberAt c i) (numberAt d i) .0 (p i h)
@@ -106,4 +106,4 @@ extreme-parted side s held e f =
 pub numbers-parted : (s : List Float) (m n : Bool) → Looked (numberAt (quarters s)) m (length (quarters s)) → Looked (numberAt (left s)) n (length (left s))
     → Looked (numberAt s) (m || n) (length s)
 numbers-parted s true n p q e = absurd (true≢false e)
-numbers-parted s false n p q e = subst (λ l. Passed (numberAt l) (length l)) (parted s) (each-append Number (quarters s) (left s) (p refl) (q e))
+numbers-parted s false n p q e = subst (λ l. Passed (numberAt l) (length l)) (parted s) (each-append InDomain (quarters s) (left s) (p refl) (q e))

@@ -13,21 +13,21 @@ use Rattle.answer.specs.declared.Answer.the-variants.{Done}
 use Rattle.answer.proofs.Chain.{gives, clear, skip, opened, none-found}
 use Rattle.min_max.specs.MinMax.{extremesAnswer}
 
--- as a test has it
-abbrev pub Number : Float → Type 0
-Number x = not (isNan x) ≡ true
+-- no NaN
+abbrev pub InDomain : Float → Type 0
+InDomain x = not (isNan x) ≡ true
 
 pub record Taken (s : List Float) : Type 0 where
   pub few : length s ≤ elementLimit
-  pub numbers : Each Number s
+  pub domain : Each InDomain s
 
 pub takes : (s : List Float) → Taken s → Done ≡ extremesAnswer s
 unfolding extremesAnswer
-takes s t = gives (skip (le-ltb _ _ (t .few)) (none-found (t .numbers) clear))
+takes s t = gives (skip (le-ltb _ _ (t .few)) (none-found (t .domain) clear))
 
 pub taken : (s : List Float) → Done ≡ extremesAnswer s → Taken s
 unfolding extremesAnswer
 taken s d =
     let a = opened _ _ _ d in
     let b = opened _ _ _ (a .1) in
-    record { few = ltb-false _ _ (a .0); numbers = first-clear _ _ (ltb-false _ _ (b .0)) }
+    record { few = ltb-false _ _ (a .0); domain = first-clear _ _ (ltb-false _ _ (b .0)) }

@@ -14,7 +14,7 @@ use Rattle.floats.specs.Values.{zeroF}
 use Rattle.floats.specs.Each.{Each}
 use Rattle.floats.proofs.Each.{each-cons, each-left, each-right}
 use Rattle.min_max.specs.MinMax.{Side, Least, Largest, extremeOf, extremesAnswer, minMaxTold}
-use Rattle.min_max.proofs.Taken.{Number, takes, taken}
+use Rattle.min_max.proofs.Taken.{InDomain, takes, taken}
 use Rattle.min_max_facts.specs.MinMaxFacts.{JoinedCall, EachDone, ChunksDone, sideTold, OneSide, ChunksCall, joined}
 use Rattle.min_max_facts.proofs.Grouping.{two-pieces, all-chunks, answer-is-number}
 
@@ -26,8 +26,8 @@ pub joined-call : JoinedCall
 joined-call s t d =
     let a = taken (s ++ t) d in
     let l = length-append s t in
-    let p = takes s (record { few = omega (arith, a .few); numbers = each-left Number s t (a .numbers) }) in
-    let q = takes t (record { few = omega (arith, a .few); numbers = each-right Number s t (a .numbers) }) in (
+    let p = takes s (record { few = omega (arith, a .few); domain = each-left InDomain s t (a .domain) }) in
+    let q = takes t (record { few = omega (arith, a .few); domain = each-right InDomain s t (a .domain) }) in (
       p,
       q,
       done-told (s ++ t) d
@@ -57,13 +57,13 @@ answers-are side [] d = refl
 answers-are side (s ∷ chunks) d =
     ap₂ _∷_ (ap (λ v. v .1) (side-done side s (d 0 (zero-lt-suc (length chunks))))) (answers-are side chunks (λ i h. d (suc i) (suc-le-suc h)))
 
-answers-numbers : (side : Side) (chunks : List (List Float)) → Each Number (map (extremeOf side) chunks)
-answers-numbers side [] i h = absurd (not-suc-le-zero h)
-answers-numbers side (s ∷ chunks) i h =
-    each-cons Number (extremeOf side s) (map (extremeOf side) chunks) (is-true _ (answer-is-number side s)) (answers-numbers side chunks) i h
+answers-domain : (side : Side) (chunks : List (List Float)) → Each InDomain (map (extremeOf side) chunks)
+answers-domain side [] i h = absurd (not-suc-le-zero h)
+answers-domain side (s ∷ chunks) i h =
+    each-cons InDomain (extremeOf side s) (map (extremeOf side) chunks) (is-true _ (answer-is-number side s)) (answers-domain side chunks) i h
 
 pub chunks-call : ChunksCall
 chunks-call side chunks few d =
     let answers = map (extremeOf side) chunks in
-    let done = takes answers (record { few = rw (length-map chunks (extremeOf side)) few; numbers = answers-numbers side chunks }) in
+    let done = takes answers (record { few = rw (length-map chunks (extremeOf side)) few; domain = answers-domain side chunks }) in
     rw (answers-are side chunks d) (side-done side answers done ∙ ap (λ v. ((0, 0), v)) (all-chunks side chunks))
