@@ -3,7 +3,8 @@
 use mathlib.Core.Path.{_≡_, refl, sym, subst}
 use mathlib.Core.Bool.{Bool, true, false, not, cond}
 use lib.Dec.{T}
-use lib.Ieee.{Float, inf, add, sub, mul, le, lt, isNan, ofBits, toSigned}
+use lib.Ieee.{Float, inf, binary32, add, sub, mul, le, lt, fits, isNan, ofBits, toSigned}
+use lib.Ieee.Fits.{cond-fits, mul-fits}
 use Rattle.floats.specs.Values.{f32, zeroF, oneF, thirtyTwoF}
 use Rattle.consts.specs.Consts.{expOverflow, expUnderflow, expLowerCutoff}
 use Rattle.exp.specs.Exp.{jOf, expOf, reducedRangeExpOf}
@@ -83,6 +84,11 @@ reduced-zero = (refl, refl)
 pub reduced-masked : reducedRangeExpOf (inf true) ≡ zeroF
 unfolding reducedRangeExpOf lt ofBits
 reduced-masked = refl
+
+-- an f32, whatever x is
+pub reduced-fits : (x : Float) → T (fits binary32 (reducedRangeExpOf x))
+unfolding reducedRangeExpOf fits ofBits
+reduced-fits x = cond-fits binary32 (lt x expLowerCutoff) zeroF (reducedFrom x (jOf x)) tt (mul-fits binary32 _ _)
 
 -- ---- all of it
 pub exp-facts : ExpFacts

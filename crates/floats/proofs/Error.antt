@@ -2,8 +2,8 @@
 -- Of a fraction a / c the format f keeps grid f a c units, and the fraction itself is a * 2 ^ low f / c units.
 use mathlib.Core.Path.{_≡_, refl, sym, ap, _∙_, subst}
 use mathlib.Core.Logic.{inl, inr}
-use Prim.Native.Nat.{ℕ, _+_, _-_, _*_, _/_, _%_, _^_, _≤_, _<_, compare}
-use native.Mathlib.Nat.{le-trans, le-of-eq, mul-one, mul-comm, mul-le-mul-right, le-of-mul-le-mul-right, mul-pos, le-div-iff-mul-le}
+use Prim.Native.Nat.{ℕ, zero, suc, _+_, _-_, _*_, _/_, _%_, _^_, _≤_, _<_, zero-le, compare}
+use native.Mathlib.Nat.{le-trans, le-of-eq, zero-mul, add-mul, mul-one, mul-comm, mul-le-mul-right, le-of-mul-le-mul-right, mul-pos, le-div-iff-mul-le}
 use native.Mathlib.Omega.{arith}
 use lib.Pow.{pow-add, pow-pos}
 use lib.Ieee.{Format, binary32, binary64, prec, low, hid, size}
@@ -12,12 +12,17 @@ use lib.Ieee.Fits.{two, two-le-pos}
 use lib.Ieee.Nearest.{closest, nearest-ge}
 use lib.Ieee.Order.{drop, kept}
 use lib.Ieee.Scale.{grid}
+use Rattle.lists.specs.Lists.{sumTo}
 use Rattle.floats.proofs.Numbers.{spread, less-or}
 use Rattle.floats.proofs.Near.{near, closest-exact}
 
+-- x and y differ by at most slack / P
+abbrev pub Within : ℕ → ℕ → ℕ → ℕ → Type 0
+Within P x y slack = (x * P ≤ y * P + slack) × (y * P ≤ x * P + slack)
+
 -- g differs from n / c by at most slack / c / 2 ^ prec
 abbrev pub Err : Format → ℕ → ℕ → ℕ → ℕ → Type 0
-Err f g n c slack = (g * c * 2 ^ prec f ≤ n * 2 ^ prec f + slack) × (n * 2 ^ prec f ≤ g * c * 2 ^ prec f + slack)
+Err f g n c slack = Within (2 ^ prec f) (g * c) n slack
 
 -- a * 2 ^ low f / c has all the digits that the format keeps
 abbrev pub Normal : Format → ℕ → ℕ → Type 0
@@ -34,11 +39,11 @@ half-ulp f a c slack C l =
     let n = a * 2 ^ low f in
     let d = 2 ^ drop (prec f) n c in
     let u = near n (c * d) (mul-pos C (pow-pos (drop (prec f) n c))) in
-    subst (λ (P : ℕ). (grid f a c * c * P ≤ n * P + slack) × (n * P ≤ grid f a c * c * P + slack)) (sym (digits f))
+    subst (λ (P : ℕ). Within P (grid f a c * c) n slack) (sym (digits f))
     (widen (kept (prec f) n c) d n (hid f) (u .0) (u .1) l)
   where
     widen : (q d n H : ℕ) → q * (c * d) * 2 ≤ n * 2 + c * d → n * 2 ≤ q * (c * d) * 2 + c * d → c * d * H ≤ slack
-        → (q * d * c * (H * 2) ≤ n * (H * 2) + slack) × (n * (H * 2) ≤ q * d * c * (H * 2) + slack)
+        → Within (H * 2) (q * d * c) n slack
     widen q d n H h k l =
         let h1 = simp spread at (mul-le-mul-right H h) in
         let k1 = simp spread at (mul-le-mul-right H k) in
@@ -111,11 +116,23 @@ whole-err f a c w C e =
     small : drop (prec f) n c ≡ 0 → grid f a c ≡ w
     small z = rw z (mul-one (closest n (c * 1)) ∙ ap (closest n) (mul-one c) ∙ closest-exact n c w C e)
 
-    cut : (g P : ℕ) → (g * c * P ≤ w * c * P + g * c) × (w * c * P ≤ g * c * P + g * c)
-        → (g * 1 * P ≤ w * P + g) × (w * P ≤ g * 1 * P + g)
+    cut : (g P : ℕ) → Within P (g * c) (w * c) (g * c) → Within P (g * 1) w g
     cut g P h =
         let h0 = simp spread at (h .0) in
         let h1 = simp spread at (h .1) in (
           le-of-mul-le-mul-right {k = c} (simp (mul-one, spread) (omega arith)) C,
           le-of-mul-le-mul-right {k = c} (simp (mul-one, spread) (omega arith)) C,
         )
+
+-- ---- errors add up
+pub within-add : (P x y s x' y' s' : ℕ) → Within P x y s → Within P x' y' s' → Within P (x + x') (y + y') (s + s')
+within-add P x y s x' y' s' (h0, h1) (k0, k1) = simp add-mul (omega arith, omega arith)
+
+pub err-sum : (f : Format) (c : ℕ) (g n s : ℕ → ℕ) (m : ℕ) → ((i : ℕ) → i < m → Err f (g i) (n i) c (s i))
+    → Err f (sumTo g m) (sumTo n m) c (sumTo s m)
+unfolding sumTo
+err-sum f c g n s zero h = simp zero-mul (zero-le, zero-le)
+err-sum f c g n s (suc m) h =
+    rw (add-mul (sumTo g m) (g m) c)
+    (within-add (2 ^ prec f) (sumTo g m * c) (sumTo n m) (sumTo s m) (g m * c) (n m) (s m)
+    (err-sum f c g n s m (λ i l. h i (omega arith))) (h m (omega arith)))

@@ -152,6 +152,13 @@ beq-same : (s : Bool) → Bool·beq s s ≡ true
 beq-same true = refl
 beq-same false = refl
 
+-- x / p is a / c and y / q is b / c: their sum over p q is that over c
+pub cross-add : (x y p q a b c : ℕ) → x * c ≡ a * p → y * c ≡ b * q → (x * q + y * p) * c ≡ (a + b) * (p * q)
+cross-add x y p q a b c u v =
+    let u1 = simp spread at (ap (λ (z : ℕ). z * q) u) in
+    let v1 = simp spread at (ap (λ (z : ℕ). z * p) v) in
+    simp spread (omega arith)
+
 pub add-same : (f : Format) (x y : Float) (s : Bool) (a b c : ℕ) → 0 < c → HasValue x s a c → HasValue y s b c
     → add f x y ≡ round f s (a + b) c
 unfolding add
@@ -162,13 +169,7 @@ add-same f (fin t m e) (inf u) s a b c C h k = absurd k
 add-same f (fin t m e) (fin u n d) s a b c C h k =
     rw (h .0, k .0, beq-same s)
     (round-same f s (m * up e * down d + n * up d * down e) (down e * down d) (a + b) c (mul-pos (down-pos e) (down-pos d)) C
-    (cross (m * up e) (n * up d) (down e) (down d) (h .1) (k .1)))
-  where
-    cross : (x y p q : ℕ) → x * c ≡ a * p → y * c ≡ b * q → (x * q + y * p) * c ≡ (a + b) * (p * q)
-    cross x y p q u v =
-        let u1 = simp spread at (ap (λ (z : ℕ). z * q) u) in
-        let v1 = simp spread at (ap (λ (z : ℕ). z * p) v) in
-        simp spread (omega arith)
+    (cross-add (m * up e) (n * up d) (down e) (down d) a b c (h .1) (k .1)))
 
 -- ---- a difference of two values without a sign, likewise
 pub sub-same : (f : Format) (x y : Float) (a b c : ℕ) → 0 < c → HasValue x false a c → HasValue y false b c

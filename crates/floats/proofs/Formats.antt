@@ -12,6 +12,8 @@ use lib.Ieee.Nearest.{closest}
 use lib.Ieee.Scale.{finite, grid}
 use Rattle.floats.specs.Floats.{roundEven}
 use Rattle.floats.specs.Fraction.{Frac, frac, _⊑_, _⊕_, _⊗_}
+use Rattle.floats.specs.Units.{InUnits, unitsOf}
+use Rattle.floats.specs.Values.{zeroF, oneF}
 use Rattle.floats.proofs.Signed.{Rounds, rounds-mono}
 use Rattle.floats.proofs.Order.{Zeros, le-antisym}
 use Rattle.floats.proofs.Monotone.{add-rounds, add-mono, sub-mono, mul-rounds, mul-mono-r, mul-anti-r, mul-comm-f}
@@ -19,6 +21,7 @@ use Rattle.floats.proofs.Exact.{value-unique, round-self, sub-self-f, o
 use Rattle.floats.proofs.Whole.{whole-value, round-even-value}
 use Rattle.floats.proofs.Middle.{middle, middle-rounds, middle-stays}
 use Rattle.floats.proofs.Error.{Err, Normal, round-err, normal-err, result-err, whole-err}
+use Rattle.floats.proofs.Units.{Off, in-units, add-off, mul-off, one-over-off}
 use Rattle.floats.proofs.Magnitude.{Below, round-below, mul-below, add-below, sub-below, div-below}
 use Rattle.floats.proofs.NoNan.{round-number, add-number, sub-number, mul-number, div-number}
 
@@ -60,6 +63,14 @@ pub record Laws (f : Format) : Type 0 where
   pub normal-err : (a c : ℕ) → 0 < c → Normal f a c → Err f (grid f a c) (a * 2 ^ low f) c (a * 2 ^ low f)
   pub result-err : (a c : ℕ) → 0 < c → Normal f a c → Err f (grid f a c) (a * 2 ^ low f) c (grid f a c * c)
   pub whole-err : (a c w : ℕ) → 0 < c → a * 2 ^ low f ≡ w * c → Err f (grid f a c) w 1 (grid f a c)
+  -- values in units of the smallest one, and the error of an operation on them
+  pub in-units : (x : Float) → T (finite x) → T (fits f x) → T (le zeroF x) → InUnits (low f) x (unitsOf (low f) x)
+  pub add-off : (x y : Float) (a b : ℕ) → InUnits (low f) x a → InUnits (low f) y b → T (finite (add f x y))
+      → Off f (add f x y) (a + b) 1 (unitsOf (low f) (add f x y))
+  pub mul-off : (x y : Float) (a b : ℕ) → InUnits (low f) x a → InUnits (low f) y b → T (finite (mul f x y))
+      → Off f (mul f x y) (a * b) (2 ^ low f) (a * b + 2 ^ low f * hid f)
+  pub one-over-off : (x : Float) (a : ℕ) → InUnits (low f) x a → T (le oneF x) → T (finite (div f oneF x))
+      → 2 ^ (prec f - 1) * a ≤ 2 ^ low f * 2 ^ low f → Off f (div f oneF x) (2 ^ low f * 2 ^ low f) a (2 ^ low f * 2 ^ low f)
   -- sizes bounded by powers of two
   pub round-below : (s : Bool) (n d k : ℕ) → 0 < d → k ≤ emax f → n ≤ 2 ^ k * d → Below k (round f s n d)
   pub mul-below : (i j k : ℕ) (x y : Float) → i + j ≤ k → k ≤ emax f → Below i x → Below j y → Below k (mul f x y)
@@ -102,6 +113,10 @@ laws f = record {
   normal-err = normal-err f;
   result-err = result-err f;
   whole-err = whole-err f;
+  in-units = in-units f;
+  add-off = add-off f;
+  mul-off = mul-off f;
+  one-over-off = one-over-off f;
   round-below = round-below f;
   mul-below = mul-below f;
   add-below = add-below f;

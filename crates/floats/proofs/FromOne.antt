@@ -1,17 +1,18 @@
 -- Values that are 1 at least: 1 more than what is not below zero, and 1 over them. Assumes nothing.
 use mathlib.Core.Path.{_≡_, refl}
-use Prim.Native.Nat.{ℕ, zero, suc, _-_, _*_}
-use native.Mathlib.Nat.{zero-mul}
+use Prim.Native.Nat.{ℕ, zero, suc, _-_, _*_, _<_}
+use native.Mathlib.Nat.{zero-lt-suc, zero-mul, one-mul, mul-one, mul-pos}
 use native.Mathlib.Omega.{arith}
-use mathlib.Core.Bool.{Bool, true, false}
+use mathlib.Core.Bool.{Bool, true, false, true≢false}
 use lib.IntN.{ℤ, pos}
 use lib.Dec.{T, eqb·suc-zero, lit≤}
-use lib.Ieee.{Float, nan, inf, fin, binary32, up, down, add, div, le, ofBits}
-use lib.Ieee.Fits.{down-pos}
+use lib.Ieee.{Float, nan, inf, fin, Format, binary32, up, down, add, div, le, ofBits}
+use lib.Ieee.Fits.{up-pos, down-pos}
 use lib.Ieee.Scale.{finite}
 use Rattle.floats.specs.Floats.{hasSign}
+use Rattle.floats.specs.Fraction.{frac}
 use Rattle.floats.proofs.Sign.{round-has, finite-number}
-use Rattle.floats.proofs.Signed.{le→⊑}
+use Rattle.floats.proofs.Signed.{le→⊑, Rounds, rounded}
 use Rattle.floats.proofs.NotNegative.{plus-le}
 use Rattle.floats.proofs.Order.{le-trans-f, le-refl-f}
 use Rattle.floats.proofs.Monotone.{add-mono}
@@ -64,4 +65,17 @@ unfolding ofBits
 one-over y h = (
   plus-le (div binary32 oneF y) (one-over-sign y h),
   below-between 0 (div binary32 oneF y) (div-below binary32 0 oneF y (lit≤ tt) (lit≤ tt) h) .1,
+)
+
+-- its fraction turned over, rounded
+pub one-over-rounds : (f : Format) (y : Float) → T (finite y) → T (le oneF y)
+    → (0 < frac y .over) × Rounds f (div f oneF y) (record { over = frac y .by; under = 0; by = frac y .over })
+unfolding div ofBits
+one-over-rounds f nan p h = absurd p
+one-over-rounds f (inf s) p h = absurd p
+one-over-rounds f (fin true n d) p h = absurd (true≢false (no-sign true n d h .0))
+one-over-rounds f (fin false zero d) p h = absurd (omega (arith, no-sign false zero d h .1))
+one-over-rounds f (fin false (suc n) d) p h = (
+  mul-pos (zero-lt-suc n) (up-pos d),
+  rw (eqb·suc-zero n) (simp (one-mul, mul-one) (rounded f false (down d) (omega arith))),
 )

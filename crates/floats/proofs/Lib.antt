@@ -13,6 +13,7 @@ pub mod NotNegative
 pub mod Zeros
 pub mod Between
 pub mod FromOne
+pub mod Units
 pub mod Largest
 pub mod Least
 pub mod Formats

@@ -1,0 +1,4 @@
+pub mod Sum
+pub mod Bound
+pub mod Weights
+pub mod Calls
