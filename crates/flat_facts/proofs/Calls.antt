@@ -1,9 +1,8 @@
 -- Both calls leave such weights, with flush or without. Assumes nothing.
 use mathlib.Core.Path.{refl, sym, ap, _∙_, subst}
 use lib.ListN.{length}
-use Rattle.answer.specs.Answer.{Outcome}
 use Rattle.answer.proofs.Numbers.{zero-done}
-use Rattle.softmax_facts.proofs.Called.{Called, called}
+use Rattle.softmax_facts.proofs.Called.{called}
 use Rattle.flat_facts.specs.FlatFacts.{Flat, FlatCall, FlatInPlace}
 use Rattle.flat_facts.proofs.Weights.{flat-weights}
 

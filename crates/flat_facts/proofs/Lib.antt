@@ -2,3 +2,4 @@ pub mod Sum
 pub mod Bound
 pub mod Weights
 pub mod Calls
+pub mod Cases

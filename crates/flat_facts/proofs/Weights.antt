@@ -2,7 +2,7 @@
 use mathlib.Core.Path.{_≡_, refl, sym, ap, _∙_, subst}
 use mathlib.Core.List.{List}
 use Prim.Native.Nat.{ℕ, suc, _+_, _-_, _*_, _^_, _≤_, _<_}
-use native.Mathlib.Nat.{le-trans, le-of-eq, mul-comm, mul-assoc, mul-le-mul-left, mul-le-mul-right, le-of-mul-le-mul-right, mul-one}
+use native.Mathlib.Nat.{le-trans, le-of-eq, mul-comm, mul-assoc, mul-le-mul-left, mul-le-mul-right, le-of-mul-le-mul-right}
 use native.Mathlib.Omega.{arith}
 use mathlib.Core.Bool.{false}
 use lib.Dec.{T, lit≤}
@@ -12,9 +12,8 @@ use lib.Ieee.{Float, nan, binary32, div, fits, ofBits}
 use lib.Ieee.Scale.{finite}
 use Rattle.lists.specs.Lists.{sumTo}
 use Rattle.lists.proofs.Sum.{sum-same, sum-add, sum-const, sum-times}
-use Rattle.floats.specs.Between.{Between}
 use Rattle.floats.specs.Each.{Each}
-use Rattle.floats.specs.Units.{InUnits, unitsOf, unitsIn}
+use Rattle.floats.specs.Units.{unitsOf, unitsIn}
 use Rattle.floats.specs.Values.{zeroF, oneF}
 use Rattle.floats.proofs.Between.{between-finite}
 use Rattle.floats.proofs.Numbers.{spread}
@@ -102,32 +101,36 @@ module _ (s : List Float) (I : Input s) where
       (between-finite zeroF oneF factor tt tt (one-over total (facts .sum-from-one))) normal
 
   -- ---- the weights
-  abbrev Rounded : Float → ℕ → Type 0
-  Rounded w e = Off binary32 w (e * units factor) unit (e * units factor + unit * 2 ^ 23)
+  -- what weight i would be, were it not rounded, in units of a unit
+  abbrev product : ℕ → ℕ
+  product i = units (exp i) * units factor
 
-  weight-off : (i : ℕ) → i < n → Rounded (weight i) (units (exp i))
+  -- half a unit, in 2 ^ -24 of those
+  abbrev half : ℕ
+  half = unit * 2 ^ 23
+
+  weight-off : (i : ℕ) → i < n → Off binary32 (weight i) (product i) unit (product i + half)
   unfolding ofBits
   weight-off i h =
       let is = weights-at s i h in
       let b = facts .outputs-between i (subst (λ m. i < m) (sym (facts .same-length)) h) in
       let F = subst (λ w. T (finite w)) is (between-finite zeroF oneF (weight i) tt tt b) in
       let t = terms i (subst (λ m. i < m) (sym (exps-length s)) h) in
-      subst (λ w. Rounded w (units (exp i))) (sym is) (mul-off binary32 (exp i) factor (units (exp i)) (units factor) (t .1) (over .units) F)
+      subst (λ w. Off binary32 w (product i) unit (product i + half)) (sym is)
+      (mul-off binary32 (exp i) factor (units (exp i)) (units factor) (t .1) (over .units) F)
+
+  products : sumTo product n ≡ unitsIn 149 (expsOf s) * units factor
+  products =
+      sum-same product (λ i. units factor * units (exp i)) n (λ i h. mul-comm (units (exp i)) (units factor))
+      ∙ sum-times (units factor) (λ i. units (exp i)) n
+      ∙ ap (λ m. units factor * sumTo (λ i. units (exp i)) m) (sym (exps-length s))
+      ∙ mul-comm (units factor) (unitsIn 149 (expsOf s))
 
   weights-err : Err binary32 (unitsIn 149 (weightsOf s)) (unitsIn 149 (expsOf s) * units factor) unit
-      (unitsIn 149 (expsOf s) * units factor + n * (unit * 2 ^ 23))
+      (unitsIn 149 (expsOf s) * units factor + n * half)
   weights-err =
-      rw (facts .same-length, exps-length s, sym products, sym slack)
-      (err-sum binary32 unit (λ i. units (weight i)) (λ i. units (exp i) * units factor) (λ i. units (exp i) * units factor + unit * 2 ^ 23) n
-      (λ i h. weight-off i h .error))
-    where
-      products : sumTo (λ i. units (exp i) * units factor) n ≡ sumTo (λ i. units (exp i)) n * units factor
-      products =
-          sum-same _ (λ i. units factor * units (exp i)) n (λ i h. mul-comm (units (exp i)) (units factor))
-          ∙ sum-times (units factor) (λ i. units (exp i)) n ∙ mul-comm (units factor) _
-
-      slack : sumTo (λ i. units (exp i) * units factor + unit * 2 ^ 23) n ≡ sumTo (λ i. units (exp i) * units factor) n + n * (unit * 2 ^ 23)
-      slack = sum-add (λ i. units (exp i) * units factor) (λ i. unit * 2 ^ 23) n ∙ ap (λ m. sumTo (λ i. units (exp i) * units factor) n + m) (sum-const (unit * 2 ^ 23) n)
+      rw (facts .same-length, sym products, sym (sum-const half n), sym (sum-add product (λ i. half) n))
+      (err-sum binary32 unit (λ i. units (weight i)) product (λ i. product i + half) n (λ i h. weight-off i h .error))
 
   errors : Errors (2 ^ 24) (2 ^ 23) unit (n - 1) (unitsIn 149 (weightsOf s)) (unitsIn 149 (expsOf s)) (units total) (units factor)
   errors = record {

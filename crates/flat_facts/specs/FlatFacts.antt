@@ -1,15 +1,16 @@
 -- How flat softmax's weights are: their exact sum, before any rounding of it, lies close to 1 (request L14). Statements only.
-use Prim.Native.Nat.{ℕ, _+_, _*_, _^_, _≤_}
+use Prim.Native.Nat.{ℕ, _+_, _*_, _^_, _≤_, _<_}
 use mathlib.Core.Path.{_≡_}
 use mathlib.Core.Bool.{Bool}
-use mathlib.Core.List.{List}
-use lib.ListN.{length}
+use mathlib.Core.List.{List, _∷_}
+use lib.ListN.{length, replicate}
 use lib.Ieee.{Float}
 use Rattle.answer.specs.Answer.{Outcome}
 use Rattle.answer.specs.declared.Answer.{Answer}
 use Rattle.answer.specs.declared.Answer.the-variants.{Done}
 use Rattle.floats.specs.Each.{Each}
 use Rattle.floats.specs.Units.{InUnits, unitsOf, unitsIn}
+use Rattle.floats.specs.Values.{f32, zeroF}
 use Rattle.softmax.specs.Softmax.{weightsOf, softmaxTold, softmaxOut, inPlaceTold, inPlaceOut}
 use Rattle.softmax_facts.specs.SoftmaxFacts.{Input}
 
@@ -44,3 +45,10 @@ FlatInPlace =
     → Input s
     → Outcome (inPlaceTold flush s) (inPlaceOut flush s) answer left
     → (answer ≡ Done) × Flat (length s) left
+
+-- half of that room is too little, on either side: of 0 and four times -16.64 the sum loses each of the four, of 0 and four times -16.6355 it
+-- counts each double
+abbrev pub HalfTooLittle : Type 0
+HalfTooLittle =
+    let five : ℕ → ℕ = λ bits. unitsIn 149 (weightsOf (zeroF ∷ replicate 4 (f32 bits))) in
+    (2 ^ 149 + (5 + 2) * 2 ^ 124 < five 0xc185_1eb8) × (five 0xc185_1581 + (5 + 2) * 2 ^ 124 < 2 ^ 149)

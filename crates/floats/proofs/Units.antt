@@ -3,12 +3,11 @@
 use mathlib.Core.Path.{_≡_, refl, sym, ap, _∙_, subst}
 use mathlib.Core.List.{List, [], _∷_}
 use Prim.Native.Nat.{ℕ, _+_, _-_, _*_, _/_, _^_, _≤_, _<_}
-use native.Mathlib.Nat.{le-trans, le-of-eq, lt-of-lt-of-le, add-zero, zero-add, zero-mul, mul-zero, mul-one, one-mul, mul-comm, mul-assoc, mul-right-comm, mul-mul-mul-comm, mul-le-mul-right, le-of-mul-le-mul-right, mul-pos, mul-div-cancel}
+use native.Mathlib.Nat.{le-trans, le-of-eq, lt-of-lt-of-le, add-zero, zero-add, zero-mul, mul-zero, mul-one, mul-comm, mul-assoc, mul-right-comm, mul-mul-mul-comm, mul-le-mul-right, le-of-mul-le-mul-right, mul-pos, mul-div-cancel, eq-of-mul-eq-mul-right}
 use native.Mathlib.Omega.{arith}
 use mathlib.Core.Bool.{Bool, true, false, true≢false}
 use lib.Dec.{T}
 use lib.IntN.{pos}
-use lib.ListN.{length, getD}
 use lib.Pow.{pow-pos}
 use lib.Ieee.{Float, nan, inf, fin, Format, prec, low, hid, up, down, round, add, mul, div, le, fits, ofBits}
 use lib.Ieee.Exact.{HasValue}
@@ -19,8 +18,9 @@ use Rattle.floats.specs.Fraction.{Frac, frac, _⊕_, _⊗_}
 use Rattle.floats.specs.Units.{InUnits, unitsOf, unitsIn}
 use Rattle.floats.specs.Values.{zeroF, oneF}
 use Rattle.floats.proofs.Numbers.{spread, zero-factor}
+use Rattle.floats.proofs.Values.{one-value}
 use Rattle.floats.proofs.Sign.{round-zero}
-use Rattle.floats.proofs.Signed.{by-pos, both-pos, le→⊑, Amount, Rounds, rounds-mono}
+use Rattle.floats.proofs.Signed.{by-pos, both-pos, le→⊑, nonneg-under, Amount, Rounds, rounds-mono}
 use Rattle.floats.proofs.Monotone.{add-rounds, mul-rounds}
 use Rattle.floats.proofs.Exact.{rounds-self, cross-add}
 use Rattle.floats.proofs.Error.{Within, Err, whole-err, round-err, normal-err}
@@ -34,28 +34,27 @@ pub units-more : (k : ℕ) (x : Float) (s : List Float) → unitsIn k (x ∷ s) 
 unfolding sumTo
 units-more k x s = sum-of-joined (unitsOf k) nan (x ∷ []) s ∙ ap (_+ unitsIn k s) (zero-add (unitsOf k x))
 
-value-units : (k : ℕ) (x : Float) (n : ℕ) → HasValue x false n (2 ^ k) → InUnits k x n
-value-units k nan n h = absurd h
-value-units k (inf s) n h = absurd h
-value-units k (fin true m e) n h = absurd (true≢false (h .0))
-value-units k (fin false m e) n h = record { is-finite = tt; not-below = refl; counted = h .1 }
+recount : (k : ℕ) (x : Float) (n : ℕ) → InUnits k x n → InUnits k x (unitsOf k x)
+recount k x n u = subst (InUnits k x) (sym (units-of k x n u)) u
 
-pub not-below : (x : Float) → T (finite x) → T (le zeroF x) → frac x .under ≡ 0
-unfolding ofBits
-not-below nan p h = absurd p
-not-below (inf s) p h = absurd p
-not-below (fin false m e) p h = refl
-not-below (fin true m e) p h = omega (arith, simp (zero-mul, mul-one) at (le→⊑ zeroF (fin true m e) tt tt h))
-
-pub whole-units : (k : ℕ) (x : Float) (n : ℕ) → HasValue x false n 1 → InUnits k x (n * 2 ^ k)
-whole-units k nan n h = absurd h
-whole-units k (inf s) n h = absurd h
-whole-units k (fin true m e) n h = absurd (true≢false (h .0))
-whole-units k (fin false m e) n h = record {
+-- of a value that is a / c
+value-units : (k : ℕ) (x : Float) (a c n : ℕ) → 0 < c → a * 2 ^ k ≡ n * c → HasValue x false a c → InUnits k x n
+value-units k nan a c n C e h = absurd h
+value-units k (inf s) a c n C e h = absurd h
+value-units k (fin true m d) a c n C e h = absurd (true≢false (h .0))
+value-units k (fin false m d) a c n C e h = record {
   is-finite = tt;
   not-below = refl;
-  counted = ap (λ z. z * 2 ^ k) (sym (mul-one (m * up e)) ∙ h .1) ∙ mul-right-comm n (down e) (2 ^ k);
+  counted = eq-of-mul-eq-mul-right c C (m * up d * 2 ^ k) (n * down d)
+      (mul-right-comm (m * up d) (2 ^ k) c
+      ∙ ap (λ z. z * 2 ^ k) (h .1)
+      ∙ mul-right-comm a (down d) (2 ^ k)
+      ∙ ap (λ z. z * down d) e
+      ∙ mul-right-comm n c (down d));
 }
+
+pub whole-units : (k : ℕ) (x : Float) (n : ℕ) → HasValue x false n 1 → InUnits k x (n * 2 ^ k)
+whole-units k x n h = value-units k x n 1 (n * 2 ^ k) (pow-pos 0) (sym (mul-one (n * 2 ^ k))) h
 
 -- the order
 pub units-mono : (k : ℕ) (x y : Float) (a b : ℕ) → InUnits k x a → InUnits k y b → T (le x y) → a ≤ b
@@ -93,7 +92,8 @@ rounds-units f {z} {q} a d Q D u e F r = go (r .sign) (r .amount) (r .is) (r .pa
         let over : n ≡ q .over = omega arith in
         let same = i ∙ ap (λ m. round f false m (q .by)) over ∙ round-same f false (q .over) (q .by) a d Q D e in
         let under = round-under f a d (subst (λ (w : Float). T (finite w)) same F) in
-        subst (λ (w : Float). InUnits (low f) w (grid f a d)) (sym same) (value-units (low f) (round f false a d) (grid f a d) (round-val f a d under))
+        subst (λ (w : Float). InUnits (low f) w (grid f a d)) (sym same)
+        (value-units (low f) (round f false a d) (grid f a d) (2 ^ low f) (grid f a d) (pow-pos (low f)) refl (round-val f a d under))
     go true n i p =
         let none : n ≡ 0 = omega arith in
         let over : q .over ≡ 0 = omega arith in
@@ -103,9 +103,10 @@ rounds-units f {z} {q} a d Q D u e F r = go (r .sign) (r .amount) (r .is) (r .pa
 
 -- what the format holds, and is not below 0, is a whole number of units
 pub in-units : (f : Format) (x : Float) → T (finite x) → T (fits f x) → T (le zeroF x) → InUnits (low f) x (unitsOf (low f) x)
+unfolding ofBits
 in-units f x p F h =
-    let u = rounds-units f {q = frac x} (frac x .over) (frac x .by) (by-pos x) (by-pos x) (not-below x p h) refl p (rounds-self f x p F) in
-    subst (InUnits (low f) x) (sym (units-of (low f) x (grid f (frac x .over) (frac x .by)) u)) u
+    recount (low f) x (grid f (frac x .over) (frac x .by))
+    (rounds-units f {q = frac x} (frac x .over) (frac x .by) (by-pos x) (by-pos x) (nonneg-under x h) refl p (rounds-self f x p F))
 
 -- so rounding it changes nothing
 pub grid-self : (f : Format) (x : Float) (a : ℕ) → T (fits f x) → InUnits (low f) x a → grid f a (2 ^ low f) ≡ a
@@ -123,8 +124,7 @@ pub record Off (f : Format) (z : Float) (n c slack : ℕ) : Type 0 where
 off : (f : Format) (z : Float) (g n c : ℕ) (slack : ℕ → ℕ) → InUnits (low f) z g → Err f g n c (slack g)
     → Off f z n c (slack (unitsOf (low f) z))
 off f z g n c slack u e =
-    let same = sym (units-of (low f) z g u) in
-    record { units = subst (InUnits (low f) z) same u; error = subst (λ m. Err f m n c (slack m)) same e }
+    record { units = recount (low f) z g u; error = subst (λ m. Err f m n c (slack m)) (sym (units-of (low f) z g u)) e }
 
 module _ (f : Format) (x y : Float) (a b : ℕ) (u : InUnits (low f) x a) (v : InUnits (low f) y b) where
   abbrev one : ℕ
@@ -175,10 +175,6 @@ module _ (f : Format) (x y : Float) (a b : ℕ) (u : InUnits (low f) x a) (v : I
             le-of-mul-le-mul-right {k = one} (simp spread (omega arith)) one-pos,
             le-of-mul-le-mul-right {k = one} (simp spread (omega arith)) one-pos,
           )
-
-one-value : HasValue oneF false 1 1
-unfolding ofBits
-one-value = (refl, refl)
 
 -- 1 over a value that is 1 at least, by 2 ^ -prec of it where it is in the normal range
 pub one-over-off : (f : Format) (x : Float) (a : ℕ) → InUnits (low f) x a → T (le oneF x) → T (finite (div f oneF x))

@@ -1,5 +1,5 @@
 -- The ordered sum of values from 0 to 1: at most their count, and at least 1 where one of them is 1. Assumes nothing.
-use mathlib.Core.Path.{_≡_, refl, sym, subst}
+use mathlib.Core.Path.{_≡_, sym, subst}
 use mathlib.Core.Logic.{_⊎_, inl, inr}
 use mathlib.Core.List.{List, [], _∷_, foldl}
 use Prim.Native.Nat.{ℕ, zero, suc, _+_, _^_, _≤_}
@@ -14,6 +14,7 @@ use lib.Ieee.Back.{round-whole}
 use lib.Ieee.Exact.{HasValue}
 use lib.Ieee.Scale.{finite}
 use Rattle.floats.specs.Values.{zeroF, oneF}
+use Rattle.floats.proofs.Values.{one-value}
 use Rattle.floats.proofs.Sign.{finite-number}
 use Rattle.floats.proofs.Order.{le-trans-f, le-refl-f}
 use Rattle.floats.proofs.Monotone.{add-mono}
@@ -44,10 +45,6 @@ sums = (tt, tt, tt)
 start : Between zeroF (countF 0) zeroF
 unfolding round le ofBits
 start = (tt, tt)
-
-one-value : HasValue oneF false 1 1
-unfolding ofBits
-one-value = (refl, refl)
 
 -- ---- one term more
 abbrev Unit01 : Float → Type 0

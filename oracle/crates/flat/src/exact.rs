@@ -36,3 +36,28 @@ impl Apart {
         (self.high as f64 + self.low as f64 / 2f64.powi(64)) / ((n as f64 + 2.0) * 2f64.powi(125 - 64))
     }
 }
+
+#[cfg(test)]
+mod tests {
+    use super::Apart;
+
+    const LEAST: f32 = f32::from_bits(1);
+
+    /// 2^-22 of the whole is 4 * 2^125 units, what two weights may be apart, and 2^-149 is one unit.
+    #[test]
+    fn the_bound_of_two_weights() {
+        let step = 2f32.powi(-22);
+        assert!(Apart::of(&[1.0, step]).within(2));
+        assert!(!Apart::of(&[1.0, step, LEAST]).within(2));
+        assert!(Apart::of(&[1.0 - step, 0.0]).within(2));
+        assert!(Apart::of(&[1.0 - step, LEAST]).within(2));
+        assert!(!Apart::of(&[1.0 - step - 2f32.powi(-24), 0.0]).within(2));
+    }
+
+    #[test]
+    fn parts_of_the_bound() {
+        assert_eq!(Apart::of(&[0.25; 4]).part(4), 0.0);
+        assert_eq!(Apart::of(&[1.0, 2f32.powi(-23)]).part(2), 0.5);
+        assert_eq!(Apart::of(&[1.0 - 2f32.powi(-24)]).part(6), -0.125);
+    }
+}

@@ -23,7 +23,7 @@ fn attempt(found: &mut Worst, side: f64, list: &[f32], weights: &mut [f32]) -> f
     let word = unsafe { mst_softmax(false, list.as_ptr(), list.len(), weights.as_mut_ptr(), weights.len()) };
     assert!(word == 0, "refused: {list:?}");
     let apart = Apart::of(weights);
-    let part = side * apart.part(list.len());
+    let part = side * apart.part(list.len()) + 0.0; // no -0
     found.tried += 1;
     found.within &= apart.within(list.len());
     if found.list.is_empty() || part > found.part {
