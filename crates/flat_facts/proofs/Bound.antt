@@ -15,6 +15,10 @@ pub record Errors (P H L k R t S C : ℕ) : Type 0 where
   pub over : Within P (C * S) (L * L) (L * L)
   pub weights : Within P (R * L) (t * C) (t * C + suc k * (L * H))
 
+-- a bound through two others that have a product in common
+through : (x y v z w u : ℕ) → x ≤ y → y * v ≡ z * w → z ≤ u → x * v ≤ u * w
+through x y v z w u h e k = le-trans (mul-le-mul-right v h) (le-trans (le-of-eq e) (mul-le-mul-right w k))
+
 -- ---- the three multiplied: t is at most M / P of S, C at most Q / P of L L / S, R at most Q / P of t C / L and n H / P more
 above-by : (P Q M B H L n R t S C : ℕ) → 0 < P → 0 < L → R * L * P ≤ t * C * Q + n * (L * H) → t * P ≤ S * M → C * S * P ≤ L * L * Q
     → L * (Q * Q * M) + n * H * (P * P) ≤ B * L * (P * P) → R * P ≤ B * L
@@ -29,9 +33,7 @@ above-by P Q M B H L n R t S C p l w s c room =
     apart = simp spread
 
     mid : t * P * (C * P * Q) ≤ L * (Q * Q * M) * L
-    mid =
-        le-trans (mul-le-mul-right (C * P * Q) s)
-        (le-trans (le-of-eq (simp spread)) (le-trans (mul-le-mul-right (M * Q) c) (le-of-eq (simp spread))))
+    mid = le-trans (through (t * P) (S * M) (C * P * Q) (C * S * P) (M * Q) (L * L * Q) s (simp spread) c) (le-of-eq (simp spread))
 
 -- and from below, with Q and M less than P
 below-by : (P Q M D H L n R t S C : ℕ) → 0 < P → 0 < L → t * C * Q ≤ R * L * P + n * (L * H) → S * M ≤ t * P → L * L * Q ≤ C * S * P
@@ -51,8 +53,9 @@ below-by P Q M D H L n R t S C p l w s c room =
     mid : L * (Q * Q * M) ≤ R * P * (P * P) + n * H * (P * P)
     mid =
         le-of-mul-le-mul-right {k = L}
-        (le-trans (le-of-eq (simp spread)) (le-trans (mul-le-mul-right (M * Q) c) (le-trans (le-of-eq (simp spread))
-        (le-trans (mul-le-mul-right (C * P * Q) s) (le-trans (le-of-eq (simp spread)) (le-trans (mul-le-mul-right (P * P) w) (le-of-eq apart)))))))
+        (le-trans (le-of-eq (simp spread))
+        (le-trans (through (L * L * Q) (C * S * P) (M * Q) (S * M) (C * P * Q) (t * P) c (simp spread) s)
+        (le-trans (le-of-eq (simp spread)) (le-trans (mul-le-mul-right (P * P) w) (le-of-eq apart)))))
         l
 
 -- ---- what is left over: P P L from above, more from below, and half a unit for each weight is less

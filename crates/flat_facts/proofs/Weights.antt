@@ -22,9 +22,9 @@ use Rattle.floats.proofs.Exact.{value-finite}
 use Rattle.floats.proofs.FromOne.{one-over}
 use Rattle.floats.proofs.Units.{Off, in-units, whole-units, units-mono, mul-off, one-over-off}
 use Rattle.exp_facts.proofs.Facts.{reduced-fits}
-use Rattle.sum.specs.Sum.{sumFrom}
 use Rattle.softmax.specs.Softmax.{expsOf, sumOf, weightsOf}
 use Rattle.softmax_facts.specs.SoftmaxFacts.{countF, Input, SoftmaxFacts}
+use Rattle.softmax_facts.proofs.Sum.{sum-fold}
 use Rattle.softmax_facts.proofs.Facts.{exps-length, exps-at, weights-at, softmax-facts}
 use Rattle.flat_facts.specs.FlatFacts.{Flat, FlatWeights}
 use Rattle.flat_facts.proofs.Sum.{Term, Close, ordered-sum}
@@ -77,10 +77,10 @@ module _ (s : List Float) (I : Input s) where
       between-finite oneF (countF n) total tt (value-finite (countF n) false n 1 (facts .count-exact)) (facts .sum-from-one, facts .sum-to-count)
 
   sum : Close binary32 (n - 1) total (unitsIn 149 (expsOf s))
-  unfolding sumOf sumFrom
   sum =
-      subst (λ m. Close binary32 (m - 1) total (unitsIn 149 (expsOf s))) (exps-length s)
-      (ordered-sum binary32 (expsOf s) (omega (arith, exps-length s, some)) terms total-finite)
+      let e = sum-fold (expsOf s) in
+      let F = subst (λ z. T (finite z)) e total-finite in
+      rw (e, sym (exps-length s)) (ordered-sum binary32 (expsOf s) (omega (arith, exps-length s, some)) terms F)
 
   -- ---- its reciprocal
   few : units total ≤ n * unit

@@ -25,7 +25,7 @@ pub record Flat (n : ℕ) (weights : List Float) : Type 0 where
   pub to : unitsIn 149 weights ≤ 2 ^ 149 + room n
   pub from : 2 ^ 149 ≤ unitsIn 149 weights + room n
 
--- of up to `elementLimit` elements, each finite or masked and one finite or more
+-- of 1 to `elementLimit` elements (the request asks for 64), each finite or masked and one finite or more
 abbrev pub FlatWeights : Type 0
 FlatWeights = (s : List Float) → Input s → Flat (length s) (weightsOf s)
 

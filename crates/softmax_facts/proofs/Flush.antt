@@ -17,12 +17,12 @@ use Rattle.lists.specs.Lists.{firstNot, tab}
 use Rattle.lists.proofs.First.{first-clear}
 use Rattle.lists.proofs.Tests.{both}
 use Rattle.lists.proofs.Tab.{tab-length, tab-at}
-use Rattle.sum.specs.Sum.{sumFrom}
 use Rattle.softmax.specs.Softmax.{isMasked, allMasked, expsOf, sumOf, weightsOf, resultOf}
 use Rattle.floats.specs.Each.{Each}
 use Rattle.floats.proofs.Each.{each-first, each-rest}
 use Rattle.softmax.proofs.Maximum.{InDomain}
 use Rattle.softmax_facts.specs.SoftmaxFacts.{Input}
+use Rattle.softmax_facts.proofs.Sum.{sum-fold}
 use Rattle.softmax_facts.proofs.Facts.{map-at, map-length, exps-length, masked-exp, weights-length, weights-at, softmax-facts}
 use Rattle.softmax_facts.proofs.Called.{some-or-none}
 
@@ -68,8 +68,7 @@ all-masked s e i h =
 
 module _ (s : List Float) (few : length s ≤ elementLimit) (d : Each InDomain s) (f : Each (λ x. T (fits binary32 x)) s) where
   masked-sum : Each (λ x. x ≡ inf true) s → sumOf (expsOf s) ≡ zeroF
-  unfolding sumOf sumFrom
-  masked-sum m = zero-sum (expsOf s) (λ i h. let l = subst (λ n. i < n) (exps-length s) h in masked-exp s d i l (m i l))
+  masked-sum m = sum-fold (expsOf s) ∙ zero-sum (expsOf s) (λ i h. let l = subst (λ n. i < n) (exps-length s) h in masked-exp s d i l (m i l))
 
   masked-weight : Each (λ x. x ≡ inf true) s → (i : ℕ) → i < length s → flushed (getD (weightsOf s) i nan) ≡ zeroF
   masked-weight m i h =

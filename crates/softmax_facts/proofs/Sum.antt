@@ -1,5 +1,5 @@
 -- The ordered sum of values from 0 to 1: at most their count, and at least 1 where one of them is 1. Assumes nothing.
-use mathlib.Core.Path.{_≡_, sym, subst}
+use mathlib.Core.Path.{_≡_, refl, sym, subst}
 use mathlib.Core.Logic.{_⊎_, inl, inr}
 use mathlib.Core.List.{List, [], _∷_, foldl}
 use Prim.Native.Nat.{ℕ, zero, suc, _+_, _^_, _≤_}
@@ -111,16 +111,18 @@ fold-between (e ∷ es) i s h b c =
       ]),
     )
 
+pub sum-fold : (es : List Float) → sumOf es ≡ foldl (add binary32) zeroF es
+unfolding sumOf sumFrom
+sum-fold es = refl
+
 module _ (es : List Float) (h : length es ≤ 2 ^ 24) (c : Each (Between zeroF oneF) es) where
   fold : Totals 0 zeroF es (foldl (add binary32) zeroF es)
   fold = fold-between es 0 zeroF (omega arith) start c
 
   pub sum-between : Between zeroF (countF (length es)) (sumOf es)
-  unfolding sumOf sumFrom
   sum-between =
       let same : 0 + length es ≡ length es = omega arith in
-      subst (λ (k : ℕ). Between zeroF (countF k) (foldl (add binary32) zeroF es)) same (fold .0)
+      rw (sum-fold es) (subst (λ (k : ℕ). Between zeroF (countF k) (foldl (add binary32) zeroF es)) same (fold .0))
 
   pub sum-from : Some (λ e. e ≡ oneF) es → T (le oneF (sumOf es))
-  unfolding sumOf sumFrom
-  sum-from p = fold .1 (inr p)
+  sum-from p = rw (sum-fold es) (fold .1 (inr p))
