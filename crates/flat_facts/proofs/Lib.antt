@@ -1,4 +1,3 @@
-pub mod Sum
 pub mod Bound
 pub mod Weights
 pub mod Calls

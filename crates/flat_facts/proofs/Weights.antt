@@ -21,13 +21,13 @@ use Rattle.floats.proofs.Error.{Within, Err, err-sum}
 use Rattle.floats.proofs.Exact.{value-finite}
 use Rattle.floats.proofs.FromOne.{one-over}
 use Rattle.floats.proofs.Units.{Off, in-units, whole-units, units-mono, mul-off, one-over-off}
+use Rattle.floats.proofs.Summed.{Term, Close, ordered-sum}
 use Rattle.exp_facts.proofs.Facts.{reduced-fits}
 use Rattle.softmax.specs.Softmax.{expsOf, sumOf, weightsOf}
 use Rattle.softmax_facts.specs.SoftmaxFacts.{countF, Input, SoftmaxFacts}
 use Rattle.softmax_facts.proofs.Sum.{sum-fold}
 use Rattle.softmax_facts.proofs.Facts.{exps-length, exps-at, weights-at, softmax-facts}
 use Rattle.flat_facts.specs.FlatFacts.{Flat, FlatWeights}
-use Rattle.flat_facts.proofs.Sum.{Term, Close, ordered-sum}
 use Rattle.flat_facts.proofs.Bound.{Errors, put-together}
 
 abbrev units : Float → ℕ

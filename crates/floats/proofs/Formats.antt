@@ -2,17 +2,20 @@
 -- The other laws of the order turn on no format, and are in Order.antt.
 use mathlib.Core.Path.{_≡_}
 use mathlib.Core.Logic.{_⊎_}
+use mathlib.Core.List.{List, foldl}
 use Prim.Native.Nat.{ℕ, suc, _+_, _-_, _*_, _^_, _≤_, _<_}
 use mathlib.Core.Bool.{Bool, false, not}
 use lib.IntN.{ℤ, pos}
 use lib.Dec.{T}
+use lib.ListN.{length}
 use lib.Ieee.{Float, fin, Format, binary32, binary64, prec, emax, low, up, down, hid, round, add, sub, mul, div, eq, le, fits, isNan}
 use lib.Ieee.Exact.{HasValue}
 use lib.Ieee.Nearest.{closest}
 use lib.Ieee.Scale.{finite, grid}
 use Rattle.floats.specs.Floats.{roundEven}
 use Rattle.floats.specs.Fraction.{Frac, frac, _⊑_, _⊕_, _⊗_}
-use Rattle.floats.specs.Units.{InUnits, unitsOf}
+use Rattle.floats.specs.Each.{Each}
+use Rattle.floats.specs.Units.{InUnits, unitsOf, unitsIn}
 use Rattle.floats.specs.Values.{zeroF, oneF}
 use Rattle.floats.proofs.Signed.{Rounds, rounds-mono}
 use Rattle.floats.proofs.Order.{Zeros, le-antisym}
@@ -22,6 +25,7 @@ use Rattle.floats.proofs.Whole.{whole-value, round-even-value}
 use Rattle.floats.proofs.Middle.{middle, middle-rounds, middle-stays}
 use Rattle.floats.proofs.Error.{Err, Normal, round-err, normal-err, result-err, whole-err}
 use Rattle.floats.proofs.Units.{Off, in-units, add-off, mul-off, one-over-off}
+use Rattle.floats.proofs.Summed.{Term, Close, ordered-sum}
 use Rattle.floats.proofs.Magnitude.{Below, round-below, mul-below, add-below, sub-below, div-below}
 use Rattle.floats.proofs.NoNan.{round-number, add-number, sub-number, mul-number, div-number}
 
@@ -71,6 +75,8 @@ pub record Laws (f : Format) : Type 0 where
       → Off f (mul f x y) (a * b) (2 ^ low f) (a * b + 2 ^ low f * hid f)
   pub one-over-off : (x : Float) (a : ℕ) → InUnits (low f) x a → T (le oneF x) → T (finite (div f oneF x))
       → 2 ^ (prec f - 1) * a ≤ 2 ^ low f * 2 ^ low f → Off f (div f oneF x) (2 ^ low f * 2 ^ low f) a (2 ^ low f * 2 ^ low f)
+  pub ordered-sum : (es : List Float) → 0 < length es → Each (Term f) es → T (finite (foldl (add f) zeroF es))
+      → Close f (length es - 1) (foldl (add f) zeroF es) (unitsIn (low f) es)
   -- sizes bounded by powers of two
   pub round-below : (s : Bool) (n d k : ℕ) → 0 < d → k ≤ emax f → n ≤ 2 ^ k * d → Below k (round f s n d)
   pub mul-below : (i j k : ℕ) (x y : Float) → i + j ≤ k → k ≤ emax f → Below i x → Below j y → Below k (mul f x y)
@@ -117,6 +123,7 @@ laws f = record {
   add-off = add-off f;
   mul-off = mul-off f;
   one-over-off = one-over-off f;
+  ordered-sum = ordered-sum f;
   round-below = round-below f;
   mul-below = mul-below f;
   add-below = add-below f;

@@ -14,6 +14,7 @@ pub mod Zeros
 pub mod Between
 pub mod FromOne
 pub mod Units
+pub mod Summed
 pub mod Largest
 pub mod Least
 pub mod Formats

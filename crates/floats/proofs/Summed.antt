@@ -5,20 +5,22 @@ use mathlib.Core.List.{List, [], _∷_, foldl}
 use Prim.Native.Nat.{ℕ, suc, _+_, _-_, _*_, _^_, _≤_, _<_}
 use native.Mathlib.Nat.{le-refl, lt-irrefl, add-zero, zero-add, zero-mul, add-mul, mul-one, suc-mul, mul-le-mul-left}
 use native.Mathlib.Omega.{arith}
+use mathlib.Core.Bool.{true}
 use lib.Dec.{T}
 use lib.ListN.{length}
-use lib.Ieee.{Float, Format, prec, low, add, fits, ofBits}
+use lib.Ieee.{Float, nan, Format, prec, low, add, fits, ofBits}
 use lib.Ieee.Bits.{is-true}
 use lib.Ieee.Fits.{add-fits}
 use lib.Ieee.Scale.{finite, grid}
 use Rattle.lists.specs.Lists.{sumTo}
+use Rattle.lists.proofs.Fold.{fold-shows}
 use Rattle.floats.specs.Each.{Each}
 use Rattle.floats.specs.Units.{InUnits, unitsOf, unitsIn}
 use Rattle.floats.specs.Values.{zeroF}
 use Rattle.floats.proofs.Each.{each-first, each-rest}
 use Rattle.floats.proofs.Error.{Within, Err}
 use Rattle.floats.proofs.Finite.{add-finite}
 use Rattle.floats.proofs.Units.{units-of, units-more, units-mono, grid-self, add-units, add-off, add-grows}
 
 module _ (f : Format) where
   abbrev units : Float → ℕ
@@ -32,9 +34,11 @@ module _ (f : Format) where
   abbrev pub Close : ℕ → Float → ℕ → Type 0
   Close j z t = Term z × Err f (units z) t 1 (j * units z)
 
+  -- a finite sum began with a finite one
   fold-finite : (es : List Float) (s : Float) → T (finite (foldl (add f) s es)) → T (finite s)
-  fold-finite [] s h = h
-  fold-finite (e ∷ es) s h = subst T (sym (add-finite f s e (is-true _ (fold-finite es (add f s e) h)) .0)) tt
+  fold-finite es s h =
+      let shown = fold-shows (add f) (λ b. finite b ≡ true) (λ x. finite x ≡ true) (add-finite f) nan es s (is-true _ h) in
+      subst T (sym (shown .0)) tt
 
   -- one term more
   more : (j : ℕ) (s e : Float) (t : ℕ) → Close j s t → Term e → T (finite (add f s e)) → Close (suc j) (add f s e) (t + units e)
