@@ -46,7 +46,7 @@ enum {
     MST_DOMAIN = 4,         /* element outside the domain; place: the first such */
     MST_MASKED = 5,         /* all masked: split; or softmax of one or more elements, flush off */
     MST_RESULT = 6,         /* normalize would yield NaN; place: the first such */
-    MST_COUNT = 7,          /* bands outside 1..16, or rows outside 1..1,024 */
+    MST_COUNT = 7,          /* bands outside 1..64, or rows outside 1..1,024 */
     MST_ROW_TOTAL = 8,      /* row not adding up to 32768; place: the row, from 0 through the table */
     MST_STORED_LENGTH = 9,  /* stored length wrong */
     MST_CHECK = 10,         /* check wrong; place: the block */
@@ -57,7 +57,7 @@ enum {
 enum {
     MST_MOST_ELEMENTS = 16384, /* of a kernel or a feeding */
     MST_PARTS = 32768,         /* the total of a split's gains and of a table's row */
-    MST_MOST_BANDS = 16,
+    MST_MOST_BANDS = 64,
     MST_MOST_ROWS = 1024,
     MST_BLOCK_BYTES = 512,
     MST_BLOCK_GAINS = 250      /* room of a block: floor(250 / bands) rows */
@@ -145,9 +145,9 @@ uint64_t mst_quantize(float inv_scale, uint8_t zero_point, const float *src, siz
 
 /* ---- Split */
 
-/* Gains of 1 to 16 bands that add up to exactly 32768; no whole numbers with that total lie nearer to the exact shares of the
+/* Gains of 1 to 64 bands that add up to exactly 32768; no whole numbers with that total lie nearer to the exact shares of the
    softmax weights (in steps of 2^-30), and equal remainders favour the lower band. The domain is finite or minus infinity
-   (masked: gain 0). Refuses 7 (n outside 1..16), 1 (m is not n), 4, 5 (all masked). */
+   (masked: gain 0). Refuses 7 (n outside 1..64), 1 (m is not n), 4, 5 (all masked). */
 uint64_t mst_split(const float *levels, size_t n, uint16_t *gains, size_t m);
 
 /* ---- Meter */

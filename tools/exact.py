@@ -145,8 +145,8 @@ def weights(levels):
     return [rounded(e * part) for e in exps]
 
 
-# document 01, "Split", in the steps of request L6
-STEPS = 2**30
+# document 01, "Split", in the steps of request L6, with the limit of request L7
+STEPS, BAND_LIMIT = 2**30, 64
 
 
 def gains(levels):
@@ -162,7 +162,7 @@ def gains(levels):
 def split(levels, lent):
     """Number, place, and what the lent gains, sevens, are afterwards."""
     kept = [7] * lent
-    if not 1 <= len(levels) <= 16:
+    if not 1 <= len(levels) <= BAND_LIMIT:
         return 7, 0, kept
     if lent != len(levels):
         return 1, 0, kept

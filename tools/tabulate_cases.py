@@ -9,7 +9,7 @@ import re
 import struct
 
 from case_files import write
-from exact import INF, MINUS_INF, NAN, drawn, split
+from exact import BAND_LIMIT, INF, MINUS_INF, NAN, drawn, split
 from stored_table import stored
 
 CASES, PROGRAM = "crates/tabulate_cases", "crates/tabulate"
@@ -18,7 +18,7 @@ CASES, PROGRAM = "crates/tabulate_cases", "crates/tabulate"
 def tabulated(word, data):
     """The bytes of the table, or the line of the refusal."""
     bands = int(word) if re.fullmatch(b"[0-9]+", word) else 0
-    if not 1 <= bands <= 16:
+    if not 1 <= bands <= BAND_LIMIT:
         return b"refused 7 0\n"
     rows = -(-len(data) // (4 * bands))
     if not 1 <= rows <= 1024:
@@ -50,7 +50,8 @@ def drawn_rows(bands, rows, size):
 
 # the example: equal bands, one far above the others, a band masked, a band masked with two equal ones, a mix of no pattern
 EXAMPLE = [0, 0, 0] + [0x41200000, 0, 0] + [0, MINUS_INF, 0x3F800000] + [MINUS_INF, 0xC0400000, 0xC0400000] + [0xBF8CCCCD, 0x40133333, 0xBE99999A]
-FULL = packed(drawn_rows(16, 1024, 8))
+FULL = packed(drawn_rows(64, 1024, 8))
+WIDE = drawn_rows(64, 7, 8)
 FILES = {
     "three": packed(EXAMPLE),
     "empty": b"",
@@ -59,7 +60,15 @@ FILES = {
     "rows_1025": packed(drawn_rows(1, 1025, 100)),
     "full": FULL,
     "full_and_one": FULL + b"\0",
-    "full_and_row": FULL + FULL[:64],
+    "full_and_row": FULL + FULL[:256],
+    "full_16": packed(drawn_rows(16, 1024, 8)),
+    "wide_17": packed(drawn_rows(17, 40, 8)),
+    "wide_63": packed(drawn_rows(63, 10, 8)),
+    "wide_64": packed(WIDE),
+    "wide_65": packed(drawn_rows(65, 3, 8)),
+    "wide_equal": packed([0x3F333333] * 64 + [MINUS_INF] * 63 + [0xFF7FFFFF] + [0x7F7FFFFF] + [0xFF7FFFFF] * 63),
+    "wide_nan": packed(WIDE[:383] + [NAN] + WIDE[384:]),
+    "wide_masked_row": packed(WIDE[:128] + [MINUS_INF] * 64 + WIDE[192:]),
     "masked_bands": packed([MINUS_INF, 0, MINUS_INF, 0x3F000000, MINUS_INF] + [0x7F7FFFFF, 0xFF7FFFFF, 1, 0x80000000, MINUS_INF]),
     "nan": packed(EXAMPLE[:6] + [0, NAN, INF]),
     "nan_patterns": packed([0, 0, 0xFFFFFFFF, 0x7F800001]),
@@ -67,16 +76,28 @@ FILES = {
     "masked_row": packed(EXAMPLE + [MINUS_INF] * 3),
     "masked_then_nan": packed([0, 0] + [MINUS_INF] * 2 + [NAN, NAN]),
 }
-WORDS = [b"", b"0", b"17", b"x", b"+3", b"-3", b"3 ", b"3/", b"3:", b"03", b"00000000000000000000003", b"18446744073709551619"]
+# three has no row of 17, 63 or 64: those words are taken, and its length is wrong
+WORDS = [b"", b"0", b"17", b"63", b"64", b"65", b"640", b"x", b"+3", b"-3", b"3 ", b"3/", b"3:", b"03", b"00000000000000000000003"]
+WORDS += [b"18446744073709551619"]
 RUNS = [("three", word) for word in WORDS] + [
     ("empty", b"3"),
     ("one", b"1"),
     ("cut", b"3"),
     ("rows_1025", b"1"),
-    ("full", b"16"),
-    ("full", b"15"),
-    ("full_and_one", b"16"),
-    ("full_and_row", b"16"),
+    ("full", b"64"),
+    ("full", b"63"),
+    ("full_and_one", b"64"),
+    ("full_and_row", b"64"),
+    ("full_16", b"16"),
+    ("full_16", b"15"),
+    ("wide_17", b"17"),
+    ("wide_63", b"63"),
+    ("wide_64", b"64"),
+    ("wide_64", b"63"),
+    ("wide_65", b"65"),
+    ("wide_equal", b"64"),
+    ("wide_nan", b"64"),
+    ("wide_masked_row", b"64"),
     ("three", b"3"),
     ("masked_bands", b"5"),
     ("nan", b"3"),

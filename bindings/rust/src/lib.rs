@@ -46,7 +46,7 @@ pub use split::split;
 /// The most elements that a kernel or a feeding takes.
 pub const MAX_ELEMENTS: usize = 16_384;
 /// The most bands of a split or a table.
-pub const MAX_BANDS: usize = 16;
+pub const MAX_BANDS: usize = 64;
 /// The most rows of a table.
 pub const MAX_ROWS: usize = 1_024;
 /// The parts that the gains of a split, and each row of a table, add up to.

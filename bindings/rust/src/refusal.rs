@@ -66,7 +66,7 @@ refusals! {
     4 Domain(element: usize) "element outside the domain";
     5 Masked "all masked, in split or in softmax of one or more elements with flush off";
     6 Result(element: usize) "normalize would yield NaN";
-    7 Count "bands outside 1..16, or rows outside 1..1,024";
+    7 Count "bands outside 1..64, or rows outside 1..1,024";
     8 RowTotal(row: usize) "row not adding up to 32768";
     9 StoredLength "stored length wrong";
     10 Check(block: usize) "check wrong";

@@ -4,7 +4,7 @@ use crate::ffi;
 use crate::guard::guarded;
 use crate::refusal::Refusal;
 
-/// Gains of 1 to 16 bands from their levels: whole parts of [`PARTS`](crate::PARTS) that add up to exactly 32768.
+/// Gains of 1 to 64 bands from their levels: whole parts of [`PARTS`](crate::PARTS) that add up to exactly 32768.
 ///
 /// The softmax weights are taken in steps of 2^-30; the parts left over go one each to the largest remainders, equal remainders to
 /// the lower band. No list of whole numbers with that total lies nearer to the exact shares. Domain: finite or minus infinity
@@ -14,7 +14,7 @@ use crate::refusal::Refusal;
 ///
 /// The first that holds, in this order; `gains` then stays as it was.
 ///
-/// - 7 [`Refusal::Count`]: no level, or over 16.
+/// - 7 [`Refusal::Count`]: no level, or over 64.
 /// - 1 [`Refusal::Length`]: `gains` is not as long as `levels`.
 /// - 4 [`Refusal::Domain`]: a level is NaN or plus infinity; the place is the first such.
 /// - 5 [`Refusal::Masked`]: all masked.

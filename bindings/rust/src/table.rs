@@ -1,6 +1,6 @@
 //! The stored table: rows of gains in blocks of 512 bytes with checks.
 //!
-//! A table has 1 to 16 bands and 1 to 1,024 rows; each row adds up to 32768. A block holds floor(250 / bands) rows, the last one
+//! A table has 1 to 64 bands and 1 to 1,024 rows; each row adds up to 32768. A block holds floor(250 / bands) rows, the last one
 //! what is left. What was written reads back, and what reads is written again as the same bytes.
 
 use crate::ffi;
@@ -17,8 +17,9 @@ pub const BLOCK: usize = 512;
 /// use masoritun::table::stored_len;
 ///
 /// assert_eq!(stored_len(1, 1), Some(512));
-/// assert_eq!(stored_len(16, 1024), Some(35_328)); // ceil(1024 / 15) blocks, document 01's cap for the lister
-/// assert_eq!(stored_len(17, 1), None);
+/// assert_eq!(stored_len(16, 1024), Some(35_328)); // 15 rows in a block: ceil(1024 / 15) blocks
+/// assert_eq!(stored_len(64, 1024), Some(175_104)); // the largest table: 3 rows in a block, 342 blocks
+/// assert_eq!(stored_len(65, 1), None);
 /// ```
 pub const fn stored_len(bands: u32, rows: u32) -> Option<usize> {
     if bands < 1 || bands > MAX_BANDS as u32 || rows < 1 || rows > MAX_ROWS as u32 {
@@ -33,7 +34,7 @@ pub const fn stored_len(bands: u32, rows: u32) -> Option<usize> {
 ///
 /// The first that holds, in this order; `bytes` then stays as it was.
 ///
-/// - 7 [`Refusal::Count`]: `bands` outside 1..16, or `rows` outside 1..1,024.
+/// - 7 [`Refusal::Count`]: `bands` outside 1..64, or `rows` outside 1..1,024.
 /// - 1 [`Refusal::Length`]: `gains` is not `rows` times `bands` long.
 /// - 9 [`Refusal::StoredLength`]: `bytes` is not as long as the table, [`stored_len`].
 /// - 8 [`Refusal::RowTotal`]: a row does not add up to 32768; the place is the first such.

@@ -149,10 +149,16 @@ fn codes() {
 #[test]
 fn splits() {
     refused(7, 0, &[7u16; 2], |gains| split(&[], gains));
-    refused(7, 0, &[7u16; 2], |gains| split(&[NAN; 17], gains));
+    refused(7, 0, &[7u16; 2], |gains| split(&[NAN; 65], gains));
+    refused(7, 0, &[7u16; 65], |gains| split(&[0.0; 65], gains));
     refused(1, 0, &[7u16; 2], |gains| split(&[NAN; 3], gains));
     refused(4, 1, &[7u16; 3], |gains| split(&[MASKED, NAN, INF], gains));
     refused(5, 0, &[7u16; 3], |gains| split(&[MASKED; 3], gains));
+    for n in [17, 63, 64] {
+        refused(1, 0, &vec![7u16; n + 1], |gains| split(&vec![NAN; n], gains));
+        refused(4, n - 1, &vec![7u16; n], |gains| split(&with(n, n - 1, INF), gains));
+        refused(5, 0, &vec![7u16; n], |gains| split(&vec![MASKED; n], gains));
+    }
 }
 
 #[test]

@@ -5,7 +5,7 @@ mod random;
 use masoritun::{MAX_BANDS, PARTS, split};
 use random::Random;
 
-/// 1 to 16 levels, close together or far apart; now and then one is masked, or one is said twice.
+/// 1 to 64 levels, close together or far apart; now and then one is masked, or one is said twice.
 fn levels(random: &mut Random) -> Vec<f32> {
     let n = 1 + random.below(MAX_BANDS);
     let spread = [1e-6, 0.1, 3.0, 20.0, 1e4][random.below(5)];
@@ -36,6 +36,20 @@ fn steps_are_fine() {
     assert_eq!(gains, [14185, 18583]);
     let share = shares(&[-0.27, 0.0])[0];
     assert!(14185.4 < share && share < 14185.5, "{share}");
+}
+
+/// Every number of bands, of one level: the parts left over go to the first.
+#[test]
+fn equal_bands() {
+    for n in 1..=MAX_BANDS {
+        for level in [0.0, -6.25, 1e30] {
+            let mut gains = vec![0; n];
+            assert_eq!(split(&vec![level; n], &mut gains), Ok(()));
+            let (each, left) = (PARTS as usize / n, PARTS as usize % n);
+            let want: Vec<u16> = (0..n).map(|i| (each + (i < left) as usize) as u16).collect();
+            assert_eq!(gains, want, "{n} bands at {level}");
+        }
+    }
 }
 
 #[test]

@@ -55,6 +55,31 @@ fn what_was_written_reads_back() {
     }
 }
 
+/// A block that says so many bands and one row, all of whose parts are in the first band.
+fn one_row(bands: u8) -> [u8; BLOCK] {
+    let mut block = [0; BLOCK];
+    block[..8].copy_from_slice(&[1, 0, 0, 0, bands, 0, 1, 0]);
+    block[9] = 0x80;
+    seal(&mut block);
+    block
+}
+
+#[test]
+fn the_most_bands() {
+    for bands in [17, 63, 64] {
+        let mut gains = vec![0xabcd; bands as usize];
+        assert_eq!(read(&one_row(bands), &mut gains), Ok((bands as u32, 1)));
+        assert_eq!((gains[0], gains[1..].iter().all(|&g| g == 0)), (32768, true));
+        let mut again = [0xee; BLOCK];
+        assert_eq!(write(bands as u32, 1, &gains, &mut again), Ok(()));
+        assert_eq!(again, one_row(bands));
+    }
+    read_refuses(&one_row(65), 65, Refusal::Header(0));
+    assert_eq!(read_block(0, &one_row(65)), Err(Refusal::Header(0)));
+    assert_eq!(stored_len(64, 1024), Some(175_104));
+    assert_eq!(stored_len(65, 1), None);
+}
+
 /// One wrong byte changes a sum or is a sum: number 10 at its block.
 #[test]
 fn a_wrong_byte_is_found() {
@@ -75,7 +100,10 @@ fn damage_under_right_checks() {
     let cases = [
         (0, 0, 2, Refusal::Header(0)),      // form 2
         (0, 2, 1, Refusal::Header(0)),      // block 0 says 1
-        (1, 4, 17, Refusal::Header(1)),     // 17 bands
+        (0, 4, 65, Refusal::Header(0)),     // 65 bands
+        (0, 4, 64, Refusal::StoredLength),  // 64 bands, whose 130 rows take 44 blocks
+        (1, 4, 65, Refusal::Header(1)),     // 65 bands
+        (1, 4, 17, Refusal::Header(1)),     // 17 bands, unlike block 0
         (1, 6, 131, Refusal::Header(1)),    // rows unlike block 0
         (1, 7, 0xff, Refusal::Header(1)),   // far too many rows
         (0, 9, 0x7f, Refusal::RowTotal(0)), // a gain of row 0
@@ -125,7 +153,7 @@ fn writing_refuses_in_order() {
     let wrong = [1; 2 * 3 + 1];
     let cases = [
         (0, 3, 6, 512, Refusal::Count),
-        (17, 3, 6, 512, Refusal::Count),
+        (65, 3, 6, 512, Refusal::Count),
         (2, 0, 6, 512, Refusal::Count),
         (2, 1025, 7, 511, Refusal::Count),
         (2, 3, 7, 511, Refusal::Length),

@@ -72,6 +72,11 @@ unfoldable pub judged : List Test → Answer
 judged [] = Done
 judged (t ∷ ts) = cond (t .0) (Refused (t .1)) (judged ts)
 
+-- the first of two answers that is a refusal
+abbrev pub orElse : Answer → Answer → Answer
+orElse Done b = b
+orElse (Refused r) b = Refused r
+
 -- the answer tells t, and l is what is left where v is promised
 pub record Outcome {A : Type 0} (t : ℕ × ℕ) (v : A) (answer : Answer) (l : A) : Type 0 where
   pub told : toldOf answer ≡ t

@@ -5,7 +5,7 @@ pub const PARTS: usize = 32768;
 
 pub const STEPS: f32 = 1073741824.0;
 
-pub const BAND_LIMIT: usize = 16;
+pub const BAND_LIMIT: usize = 64;
 
 pub const ROW_LIMIT: usize = 1024;
 
@@ -16,4 +16,4 @@ pub const TABLE_LIMIT: usize = 512 * ((ROW_LIMIT + (250 / BAND_LIMIT - 1)) / (25
 
 pub const LEVEL_LIMIT: usize = 4 * GAIN_LIMIT + 1;
 
-pub const TEXT_LIMIT: usize = (6 * BAND_LIMIT + 11) * ROW_LIMIT + 64;
+pub const BLOCK_ROOM: usize = 12 * 250;

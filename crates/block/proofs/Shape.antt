@@ -3,7 +3,7 @@ use Prim.Native.Nat.{ℕ, _+_, _-_, _*_, _/_, _%_, _≤_, _<_, min}
 use mathlib.Core.Path.{_≡_, sym, ap, _∙_}
 use mathlib.Core.List.{List}
 use native.Mathlib.Decide.{decLt}
-use native.Mathlib.Nat.{le-div-iff-mul-le, div-lt-iff-lt-mul, div-mul-le-self, div-le-self, mul-le-mul, mul-le-mul-right, add-mul, mul-assoc, mul-comm, suc-mul, lt-div-mul-add, mod-lt, div-add-mod'}
+use native.Mathlib.Nat.{le-div-iff-mul-le, div-lt-iff-lt-mul, div-mul-le-self, div-le-self, mul-le-mul, mul-le-mul-left, mul-le-mul-right, add-mul, mul-assoc, mul-comm, suc-mul, lt-div-mul-add, mod-lt, div-add-mod'}
 use native.Mathlib.Omega.{arith}
 use lib.ListN.{length}
 use Rattle.block.specs.Block.{perBlock, blocks, heldRows}
@@ -28,6 +28,18 @@ pub lt-blocks : (W N k : ℕ) → 1 ≤ perBlock W → perBlock W * k < N → k 
 unfolding blocks
 lt-blocks W N k h l = le-div-iff-mul-le h .1 (omega (arith, suc-mul k (perBlock W), mul-comm k (perBlock W)))
 
+-- fewer bands and fewer rows take no more blocks
+pub blocks-mono : (U W N M : ℕ) → 1 ≤ U → U ≤ W → W ≤ 250 → N ≤ M → blocks U N ≤ blocks W M
+blocks-mono U W N M some wide most rows =
+    let n = blocks W M in
+    let p : perBlock W ≤ perBlock U = le-div-iff-mul-le some .1 (omega (arith, per-fits W, mul-le-mul-left (perBlock W) wide)) in
+    elim (decLt n (blocks U N)) [
+      | yes l ↦
+          let a = blocks-lt U N n (per-pos U some (omega arith)) l in
+          absurd (omega (arith, lt-blocks W M n (per-pos W (omega arith) most) (omega (arith, mul-le-mul-right n p))))
+      | no l ↦ omega arith
+    ]
+
 -- so there are no more blocks than rows
 pub few-blocks : (W N k : ℕ) → 1 ≤ perBlock W → k < blocks W N → k < N
 few-blocks W N k h l = omega (arith, blocks-lt W N k h l, mul-le-mul-right k h)
@@ -46,6 +58,10 @@ unfolding heldRows
 held-fits W N k h l =
     let m : (perBlock W * k + heldRows W N k) * W ≤ N * W = mul-le-mul-right W (omega (arith, blocks-lt W N k h l)) in
     omega (arith, before-block (perBlock W) W k, add-mul (perBlock W * k) (heldRows W N k) W)
+
+pub held-last : (W N k : ℕ) → 1 ≤ perBlock W → k < blocks W N → perBlock W * k + heldRows W N k ≤ N
+unfolding heldRows
+held-last W N k h l = omega (arith, blocks-lt W N k h l)
 
 pub held-rows : (W N k r : ℕ) → 1 ≤ perBlock W → k < blocks W N → r < heldRows W N k → perBlock W * k + r < N
 unfolding heldRows

@@ -64,6 +64,14 @@ head-fits {F} S B N f k h =
     let q : rowsOf f ≡ N = eqb-true _ _ (b .1) in
     (shape-fits S (rw (p, q) at (g .shape)), rw (p, q) at (g .inside))
 
+-- more bands than the form has
+pub no-bands : (F : Form) (f : ℕ → ℕ) (k : ℕ) → F .most < bandsOf f → headOkBy F f k ≡ false
+no-bands F f k far = go (headOkBy F f k) refl
+  where
+    go : (b : Bool) → headOkBy F f k ≡ b → b ≡ false
+    go true e = absurd (let h : Head F f k = head-is f k e in omega (arith, h .shape .most))
+    go false e = refl
+
 -- a number that no header can hold, above 65,535, is no block's
 pub no-number : (F : Form) (f : ℕ → ℕ) (k : ℕ) → ((i : ℕ) → f i < 256) → 65535 < k → headOkBy F f k ≡ false
 no-number F f k small far = go (headOkBy F f k) refl

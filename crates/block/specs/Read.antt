@@ -1,11 +1,11 @@
 -- Reading a block and a table, over a block's bytes f by their index: refusals 9, 10, 11, 1, 8 and 12 in the order of RULES, Reading, and the gains.
 -- Definitions only.
-use Prim.Native.Nat.{ℕ, zero, suc, _+_, _-_, _*_, _/_, _%_}
+use Prim.Native.Nat.{ℕ, _+_, _-_, _*_, _/_, _%_}
 use mathlib.Core.Bool.{Bool, not, _&&_, _||_}
 use mathlib.Core.List.{List, [], _∷_, _++_}
-use lib.ListN.{length, getD}
+use lib.ListN.{length, getD, take, drop}
 use lib.Dec.{ltb, leb, eqb}
-use Rattle.lists.specs.Lists.{tab, firstNot}
+use Rattle.lists.specs.Lists.{tab, firstNot, joinTo}
 use Rattle.answer.specs.Answer.{Test, judged, whenDone}
 use Rattle.answer.specs.declared.Answer.{Answer}
 use Rattle.answer.specs.declared.Refusal.the-variants.{Length, StoredLength, RowTotal, Check, Header, Unused}
@@ -16,6 +16,10 @@ use Rattle.block.specs.Write.{shapeOkBy, badRow}
 -- the bytes of s from `at` on, by index; block k of a table is from 512 * k on
 abbrev pub bytesFrom : List ℕ → ℕ → ℕ → ℕ
 bytesFrom s at i = getD s (at + i) 0
+
+-- the 512 bytes of block k, or the fewer that are left
+abbrev pub blockOf : List ℕ → ℕ → List ℕ
+blockOf s k = take 512 (drop (512 * k) s)
 
 -- the number at byte i; a block's bands, rows and stored gains
 abbrev pub wordAt : (ℕ → ℕ) → ℕ → ℕ
@@ -68,11 +72,6 @@ blockAnswerBy F number s =
     let f = bytesFrom s 0 in
     judged ((not (eqb (length s) 512), StoredLength) ∷ blockTestsBy F (bandsOf f) (rowsOf f) f number)
 
--- the tests of blocks 0 to n - 1, block after block
-unfoldable pub testsTo : (ℕ → List Test) → ℕ → List Test
-testsTo f zero = []
-testsTo f (suc n) = testsTo f n ++ f n
-
 -- a table: 9 (empty or no multiple of 512), then block 0's 10, 11, and 9 (not ceil(N / P) blocks)
 unfoldable pub headTestsBy : Form → List ℕ → List Test
 headTestsBy F s =
@@ -91,7 +90,7 @@ lentTests s room = (not (eqb room (rowsOf (bytesFrom s 0) * bandsOf (bytesFrom s
 unfoldable pub bodyTestsBy : Form → List ℕ → List Test
 bodyTestsBy F s =
     let f = bytesFrom s 0 in
-    testsTo (λ k. blockTestsBy F (bandsOf f) (rowsOf f) (bytesFrom s (512 * k)) k) (blocks (F .width (bandsOf f)) (rowsOf f))
+    joinTo (λ k. blockTestsBy F (bandsOf f) (rowsOf f) (bytesFrom s (512 * k)) k) (blocks (F .width (bandsOf f)) (rowsOf f))
 
 -- the answer with gains lent, and with none
 unfoldable pub readAnswerBy : Form → List ℕ → ℕ → Answer

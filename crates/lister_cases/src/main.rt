@@ -1,17 +1,44 @@
-// Lists the tables in data/, good and damaged, each after its name; tables and expected lines come from tools/lister_cases.py.
+// Lists the tables in data/, good and damaged, each after its name, as standard input and as a named file; then two names that no file can be read
+// by, and files that change between two readings. Tables and expected lines come from tools/lister_cases.py.
 use libc::STDOUT_FILENO;
 use lister_io::run;
+use lister_io::run_file;
+use lister_io::run_twice;
 
-fn case(path: &[u8]) {
+fn say(name: &[u8]) {
+    io::write_all(STDOUT_FILENO, name);
+    io::write_all(STDOUT_FILENO, b"\n");
+}
+
+fn opened(path: &[u8]) -> i32 {
     let from = os::open_read(path);
     if from < 0 {
         os::fail(path);
-        return;
     }
-    io::write_all(STDOUT_FILENO, path);
-    io::write_all(STDOUT_FILENO, b"\n");
+    from
+}
+
+fn case(path: &[u8]) {
+    say(path);
+    let from = opened(path);
     run(from);
     libc::close(from);
+    run_file(path);
+}
+
+fn unreadable(path: &[u8]) {
+    say(path);
+    run_file(path);
+}
+
+fn changed(first: &[u8], second: &[u8]) {
+    say(first);
+    say(second);
+    let from = opened(first);
+    let then = opened(second);
+    run_twice(from, then);
+    libc::close(from);
+    libc::close(then);
 }
 
 fn main() {
@@ -26,4 +53,17 @@ fn main() {
     case(b"header");
     case(b"row");
     case(b"unused");
+    case(b"wide_17");
+    case(b"wide_63");
+    case(b"wide_64");
+    case(b"wide_65");
+    case(b"longer");
+    case(b"late");
+    unreadable(b"no_such_file");
+    unreadable(b".");
+    changed(b"two_blocks", b"changed_row");
+    changed(b"two_blocks", b"changed_first");
+    changed(b"two_blocks", b"one");
+    changed(b"two_blocks", b"cut");
+    changed(b"two_blocks", b"empty");
 }

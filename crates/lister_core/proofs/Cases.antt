@@ -3,10 +3,11 @@ use mathlib.Core.Path.{_≡_, refl, sym}
 use mathlib.Core.List.{[], _∷_}
 use native.Mathlib.Omega.{arith}
 use lib.Dec.{lit<, lit≤}
+use Rattle.lists.specs.Lists.{joinTo}
 use Rattle.digits.specs.Digits.{decimalOf}
 use Rattle.digits.proofs.Places.{decimal-is}
 use Rattle.lister_core.specs.Lines.{pairLine, gainsText, rowLine}
-use Rattle.lister_core.specs.Lister.{rowsText, tableText}
+use Rattle.lister_core.specs.Lister.{tableText}
 
 zero-text : decimalOf 0 ≡ 48 ∷ []
 zero-text = sym (decimal-is 0 1 (48 ∷ []) (lit≤ tt, lit< tt, λ h. absurd (omega arith)) refl)
@@ -19,5 +20,5 @@ whole-text = sym (decimal-is 32768 5 (51 ∷ 50 ∷ 55 ∷ 54 ∷ 56 ∷ []) (li
 
 pub one-band : tableText 1 1 (32768 ∷ [])
     ≡ 98 ∷ 97 ∷ 110 ∷ 100 ∷ 115 ∷ 32 ∷ 49 ∷ 32 ∷ 114 ∷ 111 ∷ 119 ∷ 115 ∷ 32 ∷ 49 ∷ 10 ∷ 48 ∷ 32 ∷ 51 ∷ 50 ∷ 55 ∷ 54 ∷ 56 ∷ 10 ∷ []
-unfolding pairLine gainsText rowLine rowsText tableText
+unfolding pairLine gainsText rowLine joinTo tableText
 one-band = rw (one-text, zero-text, whole-text)

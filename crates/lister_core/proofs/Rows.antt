@@ -1,44 +1,72 @@
--- The rows of a table, one line after the other. Assumes nothing.
-use Prim.Native.Nat.{ℕ, _+_, _-_, _*_, _≤_, _<_}
-use mathlib.Core.Path.{_≡_}
+-- The rows of a block, one line after the other. Assumes nothing.
+use Prim.Native.Nat.{ℕ, suc, _+_, _*_, _≤_, _<_}
+use mathlib.Core.Path.{_≡_, sym, ap, _∙_}
 use mathlib.Core.List.{List}
-use native.Mathlib.Nat.{mul-le-mul-right}
+use native.Mathlib.Nat.{mul-le-mul-right, suc-mul, mul-comm}
 use native.Mathlib.Numerals.{add-one}
 use native.Mathlib.Omega.{arith}
-use lib.ListN.{length, take, drop, length-drop}
-use lib.Seq.{length-take-le}
-use Rattle.answer.specs.Limits.{bandLimit, lineRoom}
+use lib.ListN.{length}
+use Rattle.lists.specs.Lists.{tab, joinTo}
+use Rattle.lists.proofs.Tab.{tab-same}
+use Rattle.lists.proofs.Join.{join-same}
+use Rattle.answer.specs.Limits.{lineRoom}
 use Rattle.digits.specs.Digits.{Wrote}
-use Rattle.digits.proofs.Written.{written-none, wrote-join}
-use Rattle.lister_core.specs.Lines.{headLine, rowLine}
-use Rattle.lister_core.specs.Lister.{rowsText, tableText}
+use Rattle.digits.proofs.Written.{written-none, wrote-join, wrote-as}
+use Rattle.block.specs.Block.{perBlock, blocks, heldRows}
+use Rattle.block.specs.Read.{wordAt, gainIn}
+use Rattle.block.specs.Asked.{Fits}
+use Rattle.block.proofs.Totals.{gain-row}
+use Rattle.block.proofs.Given.{given-whole}
+use Rattle.block.proofs.Shape.{per-pos, blocks-lt, held-small, held-le, held-last}
+use Rattle.table.specs.Release.{release}
+use Rattle.lister_core.specs.Lines.{rowLine}
+use Rattle.lister_core.specs.Lister.{blockLinesBy, blockLines}
+use Rattle.lister_core.specs.Asked.{storedLines, Rows}
 use Rattle.lister_core.proofs.Room.{Put}
 
+-- the most bytes of q rows of B bands
+abbrev pub most : ℕ → ℕ → ℕ
+most B q = 6 * (q * B) + 6 * q
+
 -- no row yet
-pub rows-none : (B : ℕ) (s : List ℕ) (at : ℕ) (a : List ℕ) → at ≤ length a → Put (lineRoom bandLimit * 0) (rowsText B s 0) at a a at
-unfolding rowsText
-rows-none B s at a h = record { wrote = record { ends = omega arith; fits = h; bytes = written-none at a }; short = omega arith }
+pub rows-none : (B start : ℕ) (f : ℕ → ℕ) (at : ℕ) (a : List ℕ) → at ≤ length a → Put (most B 0) (storedLines B start f 0) at a a at
+unfolding joinTo
+rows-none B start f at a h = record { wrote = record { ends = omega arith; fits = h; bytes = written-none at a }; short = omega arith }
 
--- one row more
-pub rows-more : (B : ℕ) (s : List ℕ) (n p q at : ℕ) (a b d : List ℕ) (e f : ℕ) → p ≡ n * B → q ≡ p + B → Put (lineRoom bandLimit * n) (rowsText B s n) at a b e
-    → Wrote (rowLine n (take (q - p) (drop p s))) e b d f → f ≤ e + lineRoom bandLimit → Put (lineRoom bandLimit * (n + 1)) (rowsText B s (n + 1)) at a d f
-unfolding rowsText
-rows-more B s n p q at a b d e f hp hq w v l =
-    let k : q - p ≡ B = omega arith in
-    let x : Wrote (rowLine n (take B (drop (n * B) s))) e b d f = rw (k, hp) at v in
-    record { wrote = rw add-one (wrote-join (w .wrote) x); short = omega (arith, w .short) }
+-- one row more, whose gains stand from byte p on
+pub rows-more : (B start : ℕ) (f : ℕ → ℕ) (q p at : ℕ) (a b d : List ℕ) (e g : ℕ) → p ≡ 8 + 2 * (q * B)
+    → Put (most B q) (storedLines B start f q) at a b e → Wrote (rowLine (start + q) (tab (λ j. wordAt f (p + 2 * j)) B)) e b d g → g ≤ e + lineRoom B
+    → Put (most B (q + 1)) (storedLines B start f (q + 1)) at a d g
+unfolding joinTo
+rows-more B start f q p at a b d e g hp w v l =
+    let t : tab (λ j. wordAt f (p + 2 * j)) B ≡ tab (λ j. gainIn f (q * B + j)) B = tab-same _ _ B (λ j m. gain-row f (q * B) p j hp) in
+    let x : Wrote (rowLine (start + q) (tab (λ j. gainIn f (q * B + j)) B)) e b d g = rw t at v in
+    let z : (q + 1) * B ≡ q * B + B = omega arith in
+    record { wrote = rw (add-one q) (wrote-join (w .wrote) x); short = omega (arith, w .short) }
 
--- the first line, and all rows
-pub table-put : (B N : ℕ) (s : List ℕ) (n : ℕ) (a b d : List ℕ) (e f : ℕ) → n ≡ N → Wrote (headLine B N) 0 a b e → Wrote (rowsText B s n) e b d f
-    → Wrote (tableText B N s) 0 a d f
-unfolding tableText
-table-put B N s n a b d e f h w v = wrote-join w (rw h at v)
+-- a row lies inside
+pub row-inside : (q n B : ℕ) → q < n → n * B ≤ 250 → (q * B + B ≤ 250) × ((q + 1) * B ≡ q * B + B)
+row-inside q n B h l = (omega (arith, mul-le-mul-right {m = suc q} {n = n} B h, suc-mul q B), omega arith)
 
--- a row's gains lie inside, and are as many as the bands
-pub row-inside : (n N B at : ℕ) → at ≡ n * B → n < N → (at + B ≤ N * B) × (at + B ≡ (n + 1) * B)
-row-inside n N B at e h =
-    let k : (n + 1) * B ≡ n * B + B = omega arith in
-    (omega (arith, mul-le-mul-right {m = n + 1} {n = N} B (omega arith)), omega arith)
+-- all rows
+pub rows-all : (B start : ℕ) (f : ℕ → ℕ) (q n : ℕ) (a b : List ℕ) (e : ℕ) → q ≡ n → Wrote (storedLines B start f q) 0 a b e
+    → Wrote (storedLines B start f n) 0 a b e
+rows-all B start f q n a b e h w = rw h at w
 
-pub part-length : (s : List ℕ) (p q : ℕ) → q ≤ length s → length (take (q - p) (drop p s)) ≡ q - p
-part-length s p q h = length-take-le (q - p) (drop p s) (simp length-drop (omega arith))
+-- the rows of block k: in one block, and their lines are the block's
+module _ (B N k : ℕ) (fit : Fits B N) (l : k < blocks B N) where
+  pub block-rows : Rows (k * perBlock B) (heldRows B N k) B
+  block-rows =
+      record {
+        gains = held-small B N k;
+        rows = held-le B N k;
+        bands = fit .most;
+        last = omega (arith, held-last B N k (per-pos B (fit .some) (fit .most)) l, mul-comm k (perBlock B), fit .rows);
+      }
+
+  pub block-put : (f : ℕ → ℕ) (n : ℕ) (a b : List ℕ) (e : ℕ) → n ≡ heldRows B N k → Wrote (storedLines B (k * perBlock B) f n) 0 a b e
+      → Wrote (blockLines B N f k) 0 a b e
+  unfolding blockLinesBy
+  block-put f n a b e h w =
+      wrote-as (ap (storedLines B (k * perBlock B) f) h ∙ join-same _ _ (heldRows B N k)
+      (λ q m. ap (rowLine (k * perBlock B + q)) (tab-same _ _ B (λ j l. sym (given-whole (release .parts) B (gainIn f) (q * B + j) (fit .some)))))) w

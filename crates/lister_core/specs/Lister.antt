@@ -1,33 +1,38 @@
--- RULES, Lister: all that it writes for an input. Definitions only.
-use Prim.Native.Nat.{ℕ, zero, suc, _*_}
+-- RULES, Lister: all that it writes for an input, and the lines of a block, for any form. Definitions only.
+use Prim.Native.Nat.{ℕ, _+_, _*_}
 use mathlib.Core.Bool.{cond}
-use mathlib.Core.List.{List, [], _++_}
-use lib.ListN.{length, take, drop}
-use lib.Dec.{ltb, eqb}
-use Rattle.answer.specs.Limits.{tableLimit}
+use mathlib.Core.List.{List, _++_}
+use lib.ListN.{take, drop}
+use lib.Dec.{eqb}
+use Rattle.lists.specs.Lists.{tab, joinTo}
 use Rattle.block.specs.Form.{Form}
-use Rattle.block.specs.Read.{tableGainsBy}
+use Rattle.block.specs.Block.{perBlock, heldRows, given}
+use Rattle.block.specs.Read.{gainIn, tableGainsBy}
 use Rattle.table.specs.Table.{tableToldBy}
 use Rattle.table.specs.Release.{release}
 use Rattle.lister_core.specs.Lines.{headLine, refusedLine, rowLine}
 
--- the lines of rows 0 to n - 1, of B gains each
-unfoldable pub rowsText : ℕ → List ℕ → ℕ → List ℕ
-rowsText B gains zero = []
-rowsText B gains (suc n) = rowsText B gains n ++ rowLine n (take B (drop (n * B) gains))
-
--- `bands B rows N`, then a line for each row
+-- `bands B rows N`, then a line for each row of B gains
 unfoldable pub tableText : ℕ → ℕ → List ℕ → List ℕ
-tableText B N gains = headLine B N ++ rowsText B gains N
+tableText B N gains = headLine B N ++ joinTo (λ r. rowLine r (take B (drop (r * B) gains))) N
 
 -- by what is told of a table: its number, place, bands and rows
 unfoldable pub answerText : ℕ × ℕ × ℕ × ℕ → List ℕ → List ℕ
 answerText t gains = cond (eqb (t .0) 0) (tableText (t .2) (t .3) gains) (refusedLine (t .0) (t .1))
 
--- for an input: 9 where it is longer than the cap, else the table of the form F in it, or its refusal
-unfoldable pub listedBy : Form → ℕ → List ℕ → List ℕ
-listedBy F cap s = cond (ltb cap (length s)) (refusedLine 9 0) (answerText (tableToldBy F s) (tableGainsBy F s))
+-- for an input: the table of the form F in it, or its refusal
+unfoldable pub listedBy : Form → List ℕ → List ℕ
+listedBy F s = answerText (tableToldBy F s) (tableGainsBy F s)
 
--- this release's form, and the bytes of its largest table
+-- the lines of block k, with the bytes f, of a table of B bands and N rows
+unfoldable pub blockLinesBy : Form → ℕ → ℕ → (ℕ → ℕ) → ℕ → List ℕ
+blockLinesBy F B N f k =
+    let W = F .width B in
+    joinTo (λ q. rowLine (k * perBlock W + q) (tab (λ j. given (F .parts) W B (gainIn f) (q * B + j)) B)) (heldRows W N k)
+
+-- by this release's form
 abbrev pub listed : List ℕ → List ℕ
-listed s = listedBy release tableLimit s
+listed s = listedBy release s
+
+abbrev pub blockLines : ℕ → ℕ → (ℕ → ℕ) → ℕ → List ℕ
+blockLines B N f k = blockLinesBy release B N f k

@@ -1,29 +1,25 @@
-// The lister's lines, put into a lent buffer, and the whole text for an input. For the programs above.
+// The lister's lines, put into a lent buffer: the first line, a refusal's, and those of a block. For the programs above.
 ghost use mathlib.Core.Path.{_≡_};
-ghost use Prim.Native.Nat.{_+_, _*_, _≤_};
+ghost use Prim.Native.Nat.{ℕ, _+_, _*_, _<_, _≤_};
 ghost use mathlib.Core.List.{_++_};
 ghost use lib.ListN.{length};
+ghost use Rattle.lists.specs.Lists.{tab};
 ghost use Rattle.digits.specs.Digits.{decimalOf, Wrote};
+ghost use Rattle.answer.specs.Limits.{lineRoom, pairRoom, blockRoom};
+ghost use Rattle.block.specs.Block.{blocks};
+ghost use Rattle.block.specs.Read.{bytesFrom, wordAt};
+ghost use Rattle.block.specs.Asked.{Fits};
 ghost use Rattle.lister_core.specs.Lines.{space, pairLine, headLine, refusedLine, rowLine};
-ghost use Rattle.answer.specs.Limits.{bandLimit, rowLimit, lineRoom, pairRoom, textLimit};
-ghost use Rattle.table.specs.Asked.{Known};
-ghost use Rattle.table.specs.Release.{tableGains};
-ghost use Rattle.lister_core.specs.Lister.{tableText, listed};
-use answer::Answer;
-use answer::limits::GAIN_LIMIT;
-use answer::limits::TABLE_LIMIT;
-use answer::number;
-use answer::place;
+ghost use Rattle.lister_core.specs.Lister.{blockLines};
+ghost use Rattle.lister_core.specs.Asked.{storedLines, Rows};
+use block::counts::held_in;
+use block::word::word_at;
 use digits::put_number;
 use digits::put_text;
-use table::TableAnswer;
-use table::gains::copy_gains;
-use table::shape_of;
 
 fn put_pair(word: &[u8], n: u64, between: &[u8], m: u64, at: usize, out: &mut [u8]) -> usize
     requires { ⌜ at + (length (now word) + length (now between) + 41) ≤ length (now out) ⌝ }
-    ensures text { λ r. ⌜ Wrote (pairLine (now (word .entry)) n (now (between .entry)) m) at (now (out .entry)) (now (out .exit)) r ⌝ }
-    ensures short { λ r. ⌜ r ≤ at + (length (now (word .entry)) + length (now (between .entry)) + 41) ⌝ }
+    ensures { λ r. ⌜ Wrote (pairLine (now (word .entry)) n (now (between .entry)) m) at (now (out .entry)) (now (out .exit)) r ⌝ }
 {
     let first = put_text(word, at, out);
     let second = put_number(n, first, out);
@@ -33,10 +29,9 @@ fn put_pair(word: &[u8], n: u64, between: &[u8], m: u64, at: usize, out: &mut [u
 }
 
 // `bands B rows N`
-fn put_head(bands: u32, rows: u32, at: usize, out: &mut [u8]) -> usize
+pub fn put_head(bands: usize, rows: usize, at: usize, out: &mut [u8]) -> usize
     requires { ⌜ at + pairRoom ≤ length (now out) ⌝ }
-    ensures text { λ r. ⌜ Wrote (headLine bands rows) at (now (out .entry)) (now (out .exit)) r ⌝ }
-    ensures short { λ r. ⌜ r ≤ at + pairRoom ⌝ }
+    ensures { λ r. ⌜ Wrote (headLine bands rows) at (now (out .entry)) (now (out .exit)) r ⌝ }
 {
     put_pair(b"bands ", bands as u64, b" rows ", rows as u64, at, out)
 }
@@ -59,72 +54,45 @@ fn put_gain(gain: u16, at: usize, out: &mut [u8]) -> usize
     put_number(gain as u64, next, out)
 }
 
-// A row's line: its number, then its gains.
-fn put_row(row: u32, gains: &[u16], at: usize, out: &mut [u8]) -> usize
-    requires { ⌜ at + (6 * length (now gains) + 11) ≤ length (now out) ⌝ }
-    ensures text { λ r. ⌜ Wrote (rowLine row (now (gains .entry))) at (now (out .entry)) (now (out .exit)) r ⌝ }
-    ensures short { λ r. ⌜ r ≤ at + (6 * length (now (gains .entry)) + 11) ⌝ }
+// A row's line: its number, then its gains, which stand in a block's bytes from first on.
+fn put_row(row: usize, bytes: &[u8], first: usize, bands: usize, at: usize, out: &mut [u8]) -> usize
+    requires { ⌜ (row ≤ 65535) × (bands ≤ 250) × (first + 2 * bands ≤ length (now bytes)) × (at + lineRoom bands ≤ length (now out)) ⌝ }
+    ensures text { λ r. ⌜ Wrote (rowLine row (tab (λ (j : ℕ). wordAt (bytesFrom (now (bytes .entry)) 0) (first + 2 * j)) bands)) at (now (out .entry)) (now (out .exit)) r ⌝ }
+    ensures short { λ r. ⌜ r ≤ at + lineRoom bands ⌝ }
 {
-    let n = gains.len();
     let mut next = put_number(row as u64, at, out);
-    let mut i = 0;
-    while i < n {
-        next = put_gain(gains[i], next, out);
-        i += 1;
+    let mut j = 0;
+    let mut p = first;
+    while j < bands {
+        let gain = word_at(bytes, 0, p) as u16;
+        next = put_gain(gain, next, out);
+        j += 1;
+        p += 2;
     }
     put_text(b"\n", next, out)
 }
 
-// The first line and the line of every row.
-fn put_table(bands: u32, rows: u32, gains: &[u16], out: &mut [u8]) -> usize
-    requires { ⌜ (bands ≤ bandLimit) × (length (now gains) ≡ rows * bands) × (lineRoom bandLimit * rows + pairRoom ≤ length (now out)) ⌝ }
-    ensures { λ r. ⌜ Wrote (tableText bands rows (now (gains .entry))) 0 (now (out .entry)) (now (out .exit)) r ⌝ }
+// The lines of a block's first n rows, which are the table's from start on.
+fn put_rows(start: usize, n: usize, bands: usize, bytes: &[u8], out: &mut [u8]) -> usize
+    requires { ⌜ Rows start n bands × (length (now bytes) ≡ 512) × (blockRoom ≤ length (now out)) ⌝ }
+    ensures { λ r. ⌜ Wrote (storedLines bands start (bytesFrom (now (bytes .entry)) 0) n) 0 (now (out .entry)) (now (out .exit)) r ⌝ }
 {
-    let b = bands as usize;
-    let mut next = put_head(bands, rows, 0, out);
-    let mut row: u32 = 0;
-    let mut at: usize = 0;
-    while row < rows {
-        let end = at + b;
-        next = put_row(row, &gains[at..end], next, out);
-        at = end;
-        row += 1;
+    let mut next: usize = 0;
+    let mut q = 0;
+    let mut p = 8;
+    while q < n {
+        next = put_row(start + q, bytes, p, bands, next, out);
+        q += 1;
+        p += 2 * bands;
     }
     next
 }
 
-// Copies the gains of a table that was judged, and puts its lines. The gains lent are for the work.
-fn put_copied(bytes: &[u8], bands: u32, rows: u32, gains: &mut [u16], out: &mut [u8]) -> usize
-    requires { ⌜ Known (now bytes) bands bands rows × (bands ≤ bandLimit) × (rows ≤ rowLimit) ⌝ }
-    requires { ⌜ (length (now gains) ≡ rows * bands) × (textLimit ≤ length (now out)) ⌝ }
-    ensures { λ r. ⌜ Wrote (tableText bands rows (tableGains (now (bytes .entry)))) 0 (now (out .entry)) (now (out .exit)) r ⌝ }
+// The lines of block k of a table of so many bands and rows.
+pub fn put_block(bands: usize, rows: usize, k: usize, bytes: &[u8], out: &mut [u8]) -> usize
+    requires { ⌜ Fits bands rows × (k < blocks bands rows) × (length (now bytes) ≡ 512) × (blockRoom ≤ length (now out)) ⌝ }
+    ensures { λ r. ⌜ Wrote (blockLines bands rows (bytesFrom (now (bytes .entry)) 0) k) 0 (now (out .entry)) (now (out .exit)) r ⌝ }
 {
-    copy_gains(bytes, bands as usize, gains);
-    put_table(bands, rows, gains, out)
-}
-
-fn put_judged(bytes: &[u8], bands: u32, rows: u32, out: &mut [u8]) -> usize
-    requires { ⌜ Known (now bytes) bands bands rows × (bands ≤ bandLimit) × (rows ≤ rowLimit) × (textLimit ≤ length (now out)) ⌝ }
-    ensures { λ r. ⌜ Wrote (tableText bands rows (tableGains (now (bytes .entry)))) 0 (now (out .entry)) (now (out .exit)) r ⌝ }
-{
-    let n = (rows as usize) * (bands as usize);
-    let mut gains = [0u16; GAIN_LIMIT];
-    put_copied(bytes, bands, rows, &mut gains[..n], out)
-}
-
-// All that the lister writes for an input.
-pub fn list(bytes: &[u8], out: &mut [u8]) -> usize
-    requires { ⌜ textLimit ≤ length (now out) ⌝ }
-    ensures { λ r. ⌜ Wrote (listed (now (bytes .entry))) 0 (now (out .entry)) (now (out .exit)) r ⌝ }
-{
-    if TABLE_LIMIT < bytes.len() {
-        return put_refused(9, 0, 0, out);
-    }
-    match shape_of(bytes) {
-        TableAnswer::Table(shape) => put_judged(bytes, shape.bands, shape.rows, out),
-        TableAnswer::Refused(r) => {
-            let a = Answer::Refused(r);
-            put_refused(number(a), place(a), 0, out)
-        }
-    }
+    let n = held_in(bands, rows, k);
+    put_rows(k * (250 / bands), n, bands, bytes, out)
 }

@@ -5,3 +5,4 @@ pub mod Mapped
 pub mod Placed
 pub mod Fold
 pub mod Tests
+pub mod Join

@@ -2,7 +2,7 @@
 use Prim.Native.Nat.{ℕ, zero, suc, _+_, _≤_, _<_}
 use mathlib.Core.Path.{_≡_}
 use mathlib.Core.Bool.{Bool, true, false, cond}
-use mathlib.Core.List.{List, [], _∷_}
+use mathlib.Core.List.{List, [], _∷_, _++_}
 use lib.ListN.{length, getD}
 
 -- f 0 + f 1 + .. + f (n - 1)
@@ -19,6 +19,11 @@ bit false = 0
 unfoldable pub tab : {A : Type 0} → (ℕ → A) → ℕ → List A
 tab f zero = []
 tab f (suc n) = let first = f 0 in first ∷ tab (λ i. f (suc i)) n
+
+-- f 0 ++ f 1 ++ .. ++ f (n - 1)
+unfoldable pub joinTo : {A : Type 0} → (ℕ → List A) → ℕ → List A
+joinTo f zero = []
+joinTo f (suc n) = joinTo f n ++ f n
 
 -- the first place below n that fails the test p, or n
 unfoldable pub firstNot : (ℕ → Bool) → ℕ → ℕ

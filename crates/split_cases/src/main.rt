@@ -53,15 +53,15 @@ fn show_split(text: &[u8], from: usize, levels: &mut [f32], gains: &mut [u16])
 fn case(text: &[u8], at: usize, m: usize, n: usize)
     requires { ⌜ at ≤ 65536 ⌝ }
 {
-    if m > 17 {
+    if m > 65 {
         return;
     }
-    if n > 17 {
+    if n > 65 {
         return;
     }
-    let mut levels = [0.0f32; 17];
+    let mut levels = [0.0f32; 65];
     // 7, so that what is not written shows.
-    let mut gains = [7u16; 17];
+    let mut gains = [7u16; 65];
     show_split(text, at + 2, &mut levels[..n], &mut gains[..m]);
 }
 

@@ -20,7 +20,7 @@ use Rattle.softmax.specs.Softmax.{weightsOf}
 use Rattle.parts.specs.Parts.{at, total, lt1}
 use Rattle.split.specs.Split.{gainsOf, distance, levelStepsOver, levelSteps, splitTold, splitOut}
 
--- 1 to 16 levels (`bandLimit`), each an f32, none NaN or plus infinity, one at least not minus infinity
+-- 1 to 64 levels (`bandLimit`), each an f32, none NaN or plus infinity, one at least not minus infinity
 pub record Levels (levels : List Float) : Type 0 where
   pub some : 1 ≤ length levels
   pub few : length levels ≤ bandLimit

@@ -21,12 +21,13 @@ use Rattle.table.specs.Asked.{Known}
 use Rattle.table.specs.Table.{tableToldOf, tableWith, blockToldOf, blockWith, shapeOf, readToldBy, tableToldBy}
 use Rattle.table.specs.declared.Shape.{Shape}
 use Rattle.table.specs.declared.Header.{Header}
+use Rattle.block.proofs.Shape.{per-pos, lt-blocks}
 use Rattle.block.proofs.Tests.{Within, shape-fits}
 use Rattle.table.proofs.Runs.{runs-each, runs-all}
 use Rattle.table.proofs.Reading.{begun, begun-head, body-answers, table-body-answers, Good, good, good-passes, gains-many}
 
 -- what is told with number 0 is done, and the values are those told
-table-done : (a : Answer) (x : Shape) (B N : ℕ) → tableToldOf (tableWith a x) ≡ (0, 0, B, N) → (Done ≡ a) × (x .bands ≡ B) × (x .rows ≡ N)
+pub table-done : (a : Answer) (x : Shape) (B N : ℕ) → tableToldOf (tableWith a x) ≡ (0, 0, B, N) → (Done ≡ a) × (x .bands ≡ B) × (x .rows ≡ N)
 table-done Done x B N e = (refl, ap (λ t. t .2) e, ap (λ t. t .3) e)
 table-done (Refused r) x B N e = absurd (let z : classOf r ≡ 0 = ap (λ t. t .0) e in omega (arith, listed r .0))
 
@@ -45,6 +46,12 @@ pub record Reads (F : Form) (s : List ℕ) (B N : ℕ) : Type 0 where
 
 pub reads-known : {F : Form} → Sound F → {s : List ℕ} {B N : ℕ} → Reads F s B N → Known s (F .width B) B N
 reads-known S r = record { fits = shape-fits S (r .shape); long = r .long; bands = sym (r .bands); rows = sym (r .rows) }
+
+-- it has a block
+pub reads-some : {F : Form} → Sound F → {s : List ℕ} {B N : ℕ} → Reads F s B N → 0 < blocks (F .width B) N
+reads-some {F} S {s} {B} {N} r =
+    let z = reads-known S r .fits in
+    lt-blocks (F .width B) N 0 (per-pos (F .width B) (z .some) (z .most)) (omega (arith, r .shape .rows))
 
 -- as many gains as rows times bands
 pub reads-many : {F : Form} {s : List ℕ} {B N : ℕ} → Reads F s B N → length (tableGainsBy F s) ≡ N * B

@@ -1,4 +1,4 @@
-// The gains of a table that was judged. For the crates above.
+// The gains of a table that was judged.
 ghost use mathlib.Core.Path.{_≡_};
 ghost use Prim.Native.Nat.{ℕ, _+_, _*_, _/_, _<_, _≤_};
 ghost use lib.ListN.{length};

@@ -11,13 +11,12 @@ use Rattle.answer.specs.declared.Answer.the-variants.{Done}
 use Rattle.answer.proofs.Chain.{opened, gives, skip, rest}
 use Rattle.block.specs.Form.{Form, Sound}
 use Rattle.block.specs.Block.{blocks, heldRows}
-use Rattle.block.specs.Read.{bytesFrom, wordAt, bandsOf, rowsOf, blockTestsBy, blockAnswerBy}
+use Rattle.block.specs.Read.{bytesFrom, blockOf, wordAt, bandsOf, rowsOf, blockTestsBy, blockAnswerBy}
 use Rattle.table.specs.Table.{blockToldOf, blockWith, headerBy, blockToldBy}
-use Rattle.block.proofs.Shape.{per-pos, lt-blocks}
 use Rattle.block.proofs.Tests.{head-is}
 use Rattle.table.proofs.Reading.{Good, good, good-passes}
-use Rattle.table.proofs.Readable.{Reads, block-done, reads, reads-known, judged-reads, told-read, told-judged}
-use Rattle.table_facts.specs.Trips.{blockOf, EachReads, ReadersAgree, JudgedAgrees}
+use Rattle.table.proofs.Readable.{Reads, block-done, reads, reads-some, judged-reads, told-read, told-judged}
+use Rattle.table_facts.specs.Trips.{EachReads, ReadersAgree, JudgedAgrees}
 use Rattle.table_facts.proofs.Part.{block-byte, block-long, word-same, tests-same}
 
 module _ (F : Form) (s : List ℕ) (B N k : ℕ) where
@@ -56,8 +55,7 @@ module _ (F : Form) (s : List ℕ) (B N k : ℕ) where
 
 each-reads : {F : Form} → Sound F → (s : List ℕ) (B N : ℕ) → Reads F s B N → EachReads F s B N
 each-reads {F} S s B N r =
-    let z = reads-known S r .fits in
-    let o : 0 < blocks (F .width B) N = lt-blocks (F .width B) N 0 (per-pos (F .width B) (z .some) (z .most)) (omega (arith, r .shape .rows)) in
+    let o : 0 < blocks (F .width B) N = reads-some S r in
     record {
       some = omega (arith, r .long);
       long = r .long;

@@ -11,12 +11,11 @@ use Rattle.lists.proofs.First.{first-same}
 use Rattle.block.specs.Form.{Form}
 use Rattle.block.specs.Block.{heldRows, given}
 use Rattle.block.specs.Write.{rowOk, badRow}
-use Rattle.block.specs.Read.{bytesFrom, wordAt, gainIn, checksOk, headOkBy, blank, rowTestsBy, blockTestsBy}
+use Rattle.block.specs.Read.{bytesFrom, blockOf, wordAt, gainIn, checksOk, headOkBy, blank, rowTestsBy, blockTestsBy}
 use Rattle.block.proofs.Shape.{held-small}
 use Rattle.block.proofs.Bytes.{checkA-same, checkB-same}
 use Rattle.block.proofs.Totals.{row-same}
 use Rattle.block.proofs.Given.{given-same}
-use Rattle.table_facts.specs.Trips.{blockOf}
 
 pub block-byte : (s : List ℕ) (k i : ℕ) → i < 512 → bytesFrom (blockOf s k) 0 i ≡ bytesFrom s (512 * k) i
 block-byte s k i l =
@@ -29,7 +28,7 @@ module _ (f g : ℕ → ℕ) (same : (i : ℕ) → i < 512 → f i ≡ g i) wher
   pub word-same : (i : ℕ) → i < 511 → wordAt f i ≡ wordAt g i
   word-same i l = rw (same i (omega arith), same (i + 1) (omega arith)) refl
 
-  checks-same : checksOk f ≡ checksOk g
+  pub checks-same : checksOk f ≡ checksOk g
   unfolding checksOk
   checks-same =
       rw (
@@ -40,11 +39,11 @@ module _ (f g : ℕ → ℕ) (same : (i : ℕ) → i < 512 → f i ≡ g i) wher
       )
       refl
 
-  head-same : (F : Form) (k : ℕ) → headOkBy F f k ≡ headOkBy F g k
+  pub head-same : (F : Form) (k : ℕ) → headOkBy F f k ≡ headOkBy F g k
   unfolding headOkBy
   head-same F k = rw (word-same 0 (omega arith), word-same 2 (omega arith), word-same 4 (omega arith), word-same 6 (omega arith)) refl
 
-  gain-same : (i : ℕ) → i < 250 → gainIn f i ≡ gainIn g i
+  pub gain-same : (i : ℕ) → i < 250 → gainIn f i ≡ gainIn g i
   unfolding gainIn
   gain-same i l = word-same (8 + 2 * i) (omega arith)
 

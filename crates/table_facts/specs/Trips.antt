@@ -3,11 +3,11 @@
 use Prim.Native.Nat.{ℕ, _*_, _<_}
 use mathlib.Core.Path.{_≡_}
 use mathlib.Core.List.{List}
-use lib.ListN.{length, getD, take, drop}
+use lib.ListN.{length, getD}
 use Rattle.block.specs.Form.{Form}
 use Rattle.block.specs.Block.{blocks, heldRows}
 use Rattle.block.specs.Write.{writeToldBy, writeOutBy}
-use Rattle.block.specs.Read.{readOutBy}
+use Rattle.block.specs.Read.{blockOf, readOutBy}
 use Rattle.table.specs.Table.{blockToldBy, tableToldBy, readToldBy}
 
 -- Where `write` is done, `read` of the bytes that it left, with as many gains lent as were written, tells the bands and rows, and leaves the
@@ -35,10 +35,6 @@ Rewrites F =
     → readToldBy F s lent ≡ (0, 0, B, N)
     → length bytes ≡ length s
     → writeOutBy F B N (readOutBy F s lent) bytes ≡ s
-
--- the 512 bytes of block k
-abbrev pub blockOf : List ℕ → ℕ → List ℕ
-blockOf s k = take 512 (drop (512 * k) s)
 
 -- there is a block, the length is that of the blocks, and `read_block` tells each of them, at its place, as one of B bands and N rows
 pub record EachReads (F : Form) (s : List ℕ) (B N : ℕ) : Type 0 where

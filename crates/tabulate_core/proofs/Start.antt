@@ -1,4 +1,4 @@
--- An input's first 65,537 bytes decide: what `tabulate` tells of them, and leaves, it tells and leaves of the whole input. Assumes nothing.
+-- An input's first 262,145 bytes decide: what `tabulate` tells of them, and leaves, it tells and leaves of the whole input. Assumes nothing.
 use Prim.Native.Nat.{ℕ, _+_, _-_, _*_, _≤_, _<_}
 use mathlib.Core.Path.{_≡_, refl, sym, ap, _∙_}
 use mathlib.Core.Bool.{Bool, true, false, not}

@@ -1,10 +1,12 @@
--- The row's number and its first i gains were put, with room left for the others.
-use Prim.Native.Nat.{_+_, _-_, _*_, _≤_}
-use mathlib.Core.Path.{_≡_, refl}
+-- The row's number and its first j gains were put, with room left for the others.
+use Prim.Native.Nat.{ℕ, _+_, _-_, _*_, _≤_}
+use mathlib.Core.Path.{_≡_, refl, ap, _∙_}
 use native.Mathlib.Omega.{arith}
-use lib.ListN.{length, take}
+use lib.ListN.{length}
 use borrow.Author.Needs.{needs}
+use Rattle.lists.specs.Lists.{tab}
 use Rattle.digits.proofs.Written.{wrote-length}
+use Rattle.block.specs.Read.{bytesFrom, wordAt}
 use Rattle.lister_core.specs.Lines.{gainsText}
 use Rattle.lister_core.proofs.Room.{Put, put-digits}
 use Rattle.lister_core.proofs.Lines.{gains-none, gains-more, row-put}
@@ -12,11 +14,12 @@ use Rattle.lister_core.proofs.put_row.Statement.{statement}
 use Rattle.lister_core.proofs.put_row.Tie as tie
 
 abbrev Inv-loop : tie.InvT-loop
-Inv-loop row gains at out₀ n next₀ i₀ t8 out next i =
-    (i ≤ n) × (next₀ + (6 * length gains + 1) ≤ length out₀) × (length out ≡ length out₀) × Put (6 * i) (gainsText (take i gains)) next₀ out₀ out next
+Inv-loop row bytes first bands at out₀ next₀ j₀ p₀ t11 out next j p =
+    (j ≤ bands) × (p ≡ first + 2 * j) × (next₀ + (6 * bands + 1) ≤ length out₀) × (length out ≡ length out₀)
+    × Put (6 * j) (gainsText (tab (λ (i : ℕ). wordAt (bytesFrom bytes 0) (first + 2 * i)) j)) next₀ out₀ out next
 
 abbrev μ-loop : tie.MeasureT-loop
-μ-loop row gains at out₀ n next₀ i₀ t8 out next i = n - i
+μ-loop row bytes first bands at out₀ next₀ j₀ p₀ t11 out next j p = bands - j
 
 put-number-requires : tie.Need-put-number-requires Inv-loop μ-loop
 put-number-requires c κs = search needs
@@ -24,20 +27,23 @@ put-number-requires c κs = search needs
 loop-holds : tie.Need-loop-holds Inv-loop μ-loop
 loop-holds c =
     let start = c .before .before .before .before .before .before in
-    let p = put-digits 10 (start .args .row) (omega arith) (omega (arith, start .fits .row)) (omega arith) (c .before .before .put-number .ensures) in
-    (omega arith, omega (arith, p .short, wrote-length (p .wrote)), omega arith, gains-none (start .args .gains .now) _ _ (omega (arith, p .wrote .fits, wrote-length (p .wrote))))
+    let p = put-digits 5 (start .args .row) (omega arith) (omega (arith, start .pre .0)) (omega arith) (c .before .before .put-number .ensures) in
+    (omega arith, omega arith, omega (arith, p .short, wrote-length (p .wrote)), omega arith, gains-none _ _ _ (omega (arith, p .wrote .fits, wrote-length (p .wrote))))
 
-mul-put-gain : tie.Need-mul-put-gain Inv-loop μ-loop
-mul-put-gain c = omega arith
+word-at-requires : tie.Need-word-at-requires Inv-loop μ-loop
+word-at-requires c κs = omega arith
 
-shared-slice-read-put-gain : tie.Need-shared-slice-read-put-gain Inv-loop μ-loop
-shared-slice-read-put-gain c = omega arith
+cast-gain : tie.Need-cast-gain Inv-loop μ-loop
+cast-gain c = omega (arith, c .word-at .ensures .1)
 
 put-gain-requires : tie.Need-put-gain-requires Inv-loop μ-loop
-put-gain-requires c κs = omega (arith, c .before .before .before .loop .inv .3 .short)
+put-gain-requires c κs = omega (arith, c .before .before .before .loop .inv .4 .short)
 
-add-i : tie.Need-add-i Inv-loop μ-loop
-add-i c = omega arith
+add-j : tie.Need-add-j Inv-loop μ-loop
+add-j c = omega arith
+
+add-p : tie.Need-add-p Inv-loop μ-loop
+add-p c = omega arith
 
 loop-less : tie.Need-loop-less Inv-loop μ-loop
 loop-less c = omega arith
@@ -45,12 +51,16 @@ loop-less c = omega arith
 loop-again : tie.Need-loop-again Inv-loop μ-loop
 loop-again c =
     let at-put-gain = c .before .before in
-    let at-loop = at-put-gain .before .before .before .before in
+    let at-word = at-put-gain .before .before in
+    let at-loop = at-word .before .before in
     let start = at-loop .before .before .before .before .before .before .before in
     let i = at-loop .loop .inv in
     let e = at-put-gain .put-gain .ensures in
-    let p = gains-more (start .args .gains .now) (at-loop .loop .i) _ _ _ _ _ _ (omega arith) (i .3) (e .0) (e .1) in
-    (omega arith, i .1, wrote-length (p .wrote), p)
+    let w = wordAt (bytesFrom (start .args .bytes .now) 0) in
+    let p =
+    gains-more (λ (k : ℕ). w (start .args .first + 2 * k)) (at-loop .loop .j) (at-word .word-at .result) _ _ _ _ _ _ (at-word .word-at .ensures .0 ∙ ap w (i .1)) (i .4)
+    (e .0) (e .1) in
+    (omega arith, omega arith, i .2, wrote-length (p .wrote), p)
 
 slice-aggregate-put-text : tie.Need-slice-aggregate-put-text Inv-loop μ-loop
 slice-aggregate-put-text c = refl
@@ -64,8 +74,8 @@ returns c =
     let at-loop = at-put-text .before .before .before .before in
     let at-number = at-loop .before .before .before in
     let start = at-number .before .before .before .before in
-    let p = put-digits 10 (start .args .row) (omega arith) (omega (arith, start .fits .row)) (omega arith) (at-number .put-number .ensures) in
-    row-put (start .args .row) (start .args .gains .now) (at-loop .loop .i) _ _ _ _ _ _ _ _ (omega arith) (omega arith) p (at-loop .loop .inv .3)
+    let p = put-digits 5 (start .args .row) (omega arith) (omega (arith, start .pre .0)) (omega arith) (at-number .put-number .ensures) in
+    row-put (start .args .row) _ (start .args .bands) (at-loop .loop .j) _ _ _ _ _ _ _ _ (omega arith) (omega arith) p (at-loop .loop .inv .4)
     (at-put-text .put-text .ensures)
 
 same-length : tie.Need-same-length Inv-loop μ-loop
@@ -79,10 +89,11 @@ put-row-spec =
     μ-loop
     put-number-requires
     loop-holds
-    mul-put-gain
-    shared-slice-read-put-gain
+    word-at-requires
+    cast-gain
     put-gain-requires
-    add-i
+    add-j
+    add-p
     loop-less
     loop-again
     slice-aggregate-put-text

@@ -6,6 +6,8 @@ use reference::softmax::weights;
 use reference::split::{PARTS, gains};
 
 const MASK: f32 = f32::NEG_INFINITY;
+/// The numbers of bands, those above 16 as many as a file has room for.
+const BANDS: [usize; 21] = [1, 2, 3, 4, 5, 6, 7, 8, 9, 10, 11, 12, 13, 14, 15, 16, 17, 32, 47, 63, 64];
 
 pub fn file() -> File {
     let mut f = File::new("split");
@@ -30,7 +32,7 @@ fn worked() -> Vec<Vec<f32>> {
 /// Equal bands, masked bands, huge spreads, weights that are half a part, equal remainders.
 fn built() -> Vec<Vec<f32>> {
     let mut lists: Vec<Vec<f32>> = vec![];
-    for n in 1..=16 {
+    for n in BANDS {
         lists.push(vec![[0.0, -0.0, 1.0, -5.5, f32::MAX, f32::MIN][n % 6]; n]);
         lists.push((0..n).map(|i| if i == n / 2 { 0.0 } else { MASK }).collect());
         lists.push((0..n).map(|i| if i % 2 == 0 { -3.25 } else { MASK }).collect());
@@ -54,9 +56,9 @@ fn built() -> Vec<Vec<f32>> {
 fn random() -> Vec<Vec<f32>> {
     let mut rng = Rng::new("split");
     let mut lists = vec![];
-    for i in 0..72 {
-        let n = 1 + i % 16;
-        let mut list = match i / 16 {
+    for i in 0..4 * BANDS.len() + 8 {
+        let n = BANDS[i % BANDS.len()];
+        let mut list = match i / BANDS.len() {
             0 => rng.list(n, |r| r.unit() * 3.0),
             1 => rng.list(n, |r| r.unit() * 20.0),
             2 => rng.list(n, |r| if r.one_in(3) { MASK } else { r.unit() * 6.0 }),

@@ -5,7 +5,7 @@ use crate::plan::{Mode, other_length, spoil};
 use crate::tally::{Tally, hex};
 use cases::Rng;
 use reference::answer::DONE;
-use reference::split::{gains, split};
+use reference::split::{BAND_LIMIT, gains, split};
 
 unsafe extern "C" {
     fn mst_split(levels: *const f32, n: usize, gains: *mut u16, m: usize) -> u64;
@@ -17,7 +17,7 @@ pub fn compare(mode: Mode, report: &mut dyn FnMut(Tally)) {
     let mut tally = Tally::new("split, random calls");
     let mut rng = Rng::new("compare split");
     for _ in 0..mode.calls(500_000) {
-        let n = if rng.one_in(16) { rng.pick(&[0, 17, 18, 40]) } else { 1 + rng.below(16) };
+        let n = if rng.one_in(16) { rng.pick(&[0, BAND_LIMIT + 1, BAND_LIMIT + 2, 200]) } else { 1 + rng.below(BAND_LIMIT) };
         let mut levels = match rng.below(7) {
             0 => rng.list(n, Rng::mixed),
             1 => rng.list(n, |r| if r.one_in(3) { MASK } else { r.unit() * 12.0 }),

@@ -6,7 +6,7 @@ use crate::tally::{Tally, hex};
 use cases::Rng;
 use reference::Answer;
 use reference::answer::DONE;
-use reference::split::gains;
+use reference::split::{BAND_LIMIT, gains};
 use reference::table::{BLOCK, blocks, checks, read, read_block, rows_a_block, write};
 
 unsafe extern "C" {
@@ -44,9 +44,12 @@ pub fn compare(mode: Mode, report: &mut dyn FnMut(Tally)) {
     [writing, reading, one].into_iter().for_each(report);
 }
 
-/// Mostly a few rows; now and then up to the limit, or about a block's edge.
+/// Mostly a few rows; now and then up to the limit, or about a block's edge, or over 256 blocks, whose numbers need both bytes.
 fn sizes(rng: &mut Rng) -> (usize, usize) {
-    let bands = 1 + rng.below(16);
+    if rng.one_in(128) {
+        return (BAND_LIMIT - rng.below(2), 1024 - rng.below(256));
+    }
+    let bands = 1 + rng.below(BAND_LIMIT);
     let rows = match rng.below(64) {
         0 => 1024,
         1 => 1 + rng.below(1024),
@@ -65,7 +68,7 @@ fn write_call(tally: &mut Tally, rng: &mut Rng, bands: u32, rows: u32, table: &[
     let mut m = BLOCK * blocks(bands as usize, rows as usize);
     if rng.one_in(2) {
         match rng.below(5) {
-            0 => bands = rng.pick(&[0, 17, 65536, 65537, u32::MAX, bands + 1]),
+            0 => bands = rng.pick(&[0, BAND_LIMIT as u32 + 1, 65536, 65537, u32::MAX, bands + 1]),
             1 => rows = rng.pick(&[0, 1025, 65536, 65537, u32::MAX, rows + 1]),
             2 => m = rng.pick(&[0, m - BLOCK, m + BLOCK, m + 1, m - 1]),
             3 => table.truncate(table.len() - 1),
@@ -110,7 +113,7 @@ fn damage(rng: &mut Rng, bytes: &[u8], bands: usize) -> Vec<u8> {
             1 => bytes.extend_from_within(..BLOCK),
             2 => bytes.copy_within(block..block + BLOCK, rng.below(count) * BLOCK),
             3 => move_a_part(rng, &mut bytes[block..block + BLOCK]),
-            4 => bytes[at] = rng.pick(&[0, 1, 2, 4, 16, 17, 128, 255]),
+            4 => bytes[at] = rng.pick(&[0, 1, 2, 4, 16, 17, 63, 64, 65, 128, 255]),
             _ => bytes[at] = bytes[at].wrapping_add(rng.pick(&[1, 255, 128])),
         }
         if rng.one_in(4) {
@@ -156,7 +159,9 @@ fn block_call(tally: &mut Tally, rng: &mut Rng, bytes: &[u8]) {
     let k = rng.below((bytes.len() / BLOCK).max(1));
     let length = if rng.one_in(16) { rng.pick(&[0, 511, 513, 1024]) } else { BLOCK };
     let bytes = &bytes[(k * BLOCK).min(bytes.len())..(k * BLOCK + length).min(bytes.len())];
-    let number = if rng.one_in(8) { rng.pick(&[0, k as u32 + 1, 65535, 65536, 65536 + k as u32, u32::MAX]) } else { k as u32 };
+    let own = k as u32;
+    let others = [0, own + 1, own ^ 256, 65535, 65536, 65536 + own, u32::MAX];
+    let number = if rng.one_in(8) { rng.pick(&others) } else { own };
     let old = [0; 4].map(|_| rng.word());
     let lent = Lent::new(bytes);
     let [mut form, mut bands, mut rows, mut held] = old.map(|x| Lent::new(&[x]));

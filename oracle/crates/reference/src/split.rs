@@ -4,7 +4,8 @@ use crate::answer::{Answer, DONE, at_first, judged, when};
 use crate::softmax::{all_masked, in_domain, weights};
 
 pub const PARTS: u64 = 32768;
-pub const BAND_LIMIT: usize = 16;
+/// Request L7's.
+pub const BAND_LIMIT: usize = 64;
 /// A weight of 1 is 2^30 steps (request L6).
 pub const STEP_BITS: i32 = 30;
 

@@ -1,9 +1,10 @@
 //! Document 01, "Sums by hand", as document 02 has changed them.
 
+use reference::Answer;
 use reference::answer::DONE;
 use reference::quantize::quantize;
 use reference::split::split;
-use reference::table::{read, read_block, write};
+use reference::table::{BLOCK, blocks, checks, read, read_block, write};
 use reference::unary::{Op, apply, eval};
 
 const MASK: f32 = f32::NEG_INFINITY;
@@ -30,9 +31,18 @@ fn splits() {
     // in steps of 2^-24 the shares end in a half each, and the lower band is ahead
     assert_eq!(gains(&[-0.27, 0.0]), [14185, 18583]);
     assert_eq!(refusal(&[]), (7, 0));
-    assert_eq!(refusal(&[0.0; 17]), (7, 0));
+    assert_eq!(refusal(&[0.0; 65]), (7, 0));
     assert_eq!(refusal(&[MASK; 3]), (5, 0));
     assert_eq!(refusal(&[0.0, f32::NAN]), (4, 1));
+}
+
+/// n equal levels: 32768 / n for each, one part more for the first 32768 mod n.
+#[test]
+fn equal_bands() {
+    for n in 1..=64 {
+        let want: Vec<u16> = (0..n).map(|i| (32768 / n + (i < 32768 % n) as usize) as u16).collect();
+        assert_eq!(gains(&vec![0.7; n]), want);
+    }
 }
 
 #[test]
@@ -68,4 +78,35 @@ fn one_row_table() {
     let (header, gains) = read(&bytes, 1).unwrap();
     assert_eq!((header.bands, header.rows, gains), (1, 1, vec![32768]));
     assert_eq!(read_block(0, &bytes).unwrap().1, 1);
+}
+
+/// Row r has all parts in one band, the r-th, from the first again after the last.
+fn slanting(bands: usize, rows: usize) -> Vec<u16> {
+    (0..rows).flat_map(|r| (0..bands).map(move |b| if b == r % bands { 32768 } else { 0 })).collect()
+}
+
+/// The checks put right.
+fn seal(block: &mut [u8]) {
+    for (i, sum) in checks(block).into_iter().enumerate() {
+        block[508 + 2 * i..510 + 2 * i].copy_from_slice(&(sum as u16).to_le_bytes());
+    }
+}
+
+/// Request L7: at 64 bands a block holds 3 rows, and 1,024 rows take 342 blocks.
+#[test]
+fn wide_tables() {
+    assert_eq!(BLOCK * blocks(64, 1024), 175_104);
+    for bands in [17, 63, 64] {
+        let rows = slanting(bands, 1024);
+        let mut bytes = vec![9; BLOCK * blocks(bands, 1024)];
+        assert_eq!(write(bands as u32, 1024, &rows, &mut bytes), DONE);
+        assert_eq!(read(&bytes, rows.len()).unwrap().1, rows);
+    }
+    let mut bytes = [9; BLOCK];
+    assert_eq!(write(65, 3, &slanting(65, 3), &mut bytes).number, 7);
+    assert_eq!(write(64, 3, &slanting(64, 3), &mut bytes), DONE);
+    bytes[4] = 65;
+    seal(&mut bytes);
+    assert_eq!(read(&bytes, 3 * 65).unwrap_err(), Answer { number: 11, place: 0 });
+    assert_eq!(read_block(0, &bytes).unwrap_err(), Answer { number: 11, place: 0 });
 }

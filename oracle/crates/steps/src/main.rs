@@ -3,10 +3,11 @@
 
 use cases::Rng;
 use reference::softmax::weights;
-use reference::split::{BAND_LIMIT, STEP_BITS, gains_in, steps};
+use reference::split::{STEP_BITS, gains_in, steps};
 use reference::unary::reduced_range_exp;
 
 const BEFORE: i32 = 24;
+const BANDS: usize = 16;
 const LISTS: usize = 1_000_000;
 const SPREADS: [f32; 3] = [3.0, 12.0, 40.0];
 
@@ -87,7 +88,7 @@ fn main() {
     }
     println!("bands: of {LISTS} lists with levels within 3, 12, 40 of 0 those that differ; the most that a gain moved");
     let mut all = Count::default();
-    for n in 1..=BAND_LIMIT {
+    for n in 1..=BANDS {
         let counts = SPREADS.map(|spread| random(n, spread));
         let [a, b, c] = counts.each_ref().map(|c| c.differ);
         println!("{n}: {a} {b} {c}; {}", counts.iter().map(|c| c.most).max().unwrap());

@@ -1,0 +1,215 @@
+-- What is held of an input that is read once: `Kept` from block after block, and the text of the held blocks (`HeldShows`). Assumes nothing.
+use Prim.Native.Nat.{ℕ, zero, suc, _+_, _*_, _/_, _≤_, _<_, min}
+use mathlib.Core.Path.{_≡_, refl, sym, ap, ap₂, _∙_}
+use mathlib.Core.Bool.{Bool, true, false, cond}
+use mathlib.Core.List.{List, [], _∷_, _++_}
+use native.Mathlib.Decide.{decLe}
+use native.Mathlib.Numerals.{add-one}
+use native.Mathlib.Omega.{arith}
+use lib.ListN.{length, take, drop, length-append, length-drop}
+use lib.Seq.{take-all, drop-at, take-add, take-append-le, drop-append-le, length-take-le}
+use lib.Dec.{eqb}
+use borrow.Author.Tests.{eqb-true}
+use Rattle.lists.proofs.Join.{join-same}
+use Rattle.answer.specs.Limits.{bandLimit, rowLimit, tableLimit}
+use Rattle.answer.specs.declared.Answer.{Answer}
+use Rattle.answer.specs.declared.Answer.the-variants.{Done, Refused}
+use Rattle.digits.specs.Digits.{written, putOut, putNext}
+use Rattle.digits.proofs.Written.{put-done, put-not, written-length}
+use Rattle.block.specs.Form.{Form}
+use Rattle.block.specs.Block.{blocks}
+use Rattle.block.specs.Read.{bytesFrom, bandsOf, rowsOf, blockOf}
+use Rattle.block.specs.Asked.{Fits}
+use Rattle.block.proofs.Shape.{blocks-mono}
+use Rattle.table.specs.Table.{tableToldOf, tableWith, shapeOf}
+use Rattle.table.specs.Release.{release, tableAnswer}
+use Rattle.table.proofs.Form1.{sound}
+use Rattle.table.proofs.Readable.{Reads, judged-reads, reads-known}
+use Rattle.judging.specs.declared.Judging.{Judging}
+use Rattle.judging.specs.Judging.{newJudging, firstBy, moreBy, fedBy, finished, fedTo, fedAll}
+use Rattle.lister_core.specs.Lines.{headLine}
+use Rattle.lister_core.specs.Lister.{blockLines, listed}
+use Rattle.lister_facts.specs.ByBlocks.{textByBlocks, shownBy}
+use Rattle.lister_facts.specs.Held.{Kept, HeldShows}
+use Rattle.lister_facts.proofs.Judged.{judged-by-blocks, shape-is}
+use Rattle.lister_facts.proofs.Listed.{listed-by-blocks}
+
+-- ---- a piece more
+block-join : (s t : List ℕ) (k : ℕ) → 512 * k + 512 ≤ length s → blockOf (s ++ t) k ≡ blockOf s k
+block-join s t k l =
+    ap (take 512) (drop-append-le (512 * k) s t (omega arith)) ∙ take-append-le 512 (drop (512 * k) s) t (omega (arith, length-drop (512 * k) s))
+
+fed-join : (F : Form) (s t : List ℕ) (k : ℕ) → 512 * k ≤ length s → fedTo F (s ++ t) k ≡ fedTo F s k
+unfolding fedTo
+fed-join F s t zero l = refl
+fed-join F s t (suc k) l = ap₂ (fedBy F) (fed-join F s t k (omega arith)) (block-join s t k (omega arith))
+
+piece-last : (s t : List ℕ) (k : ℕ) → length s ≡ 512 * k → length t ≤ 512 → blockOf (s ++ t) k ≡ t
+piece-last s t k l m = ap (take 512) (drop-at s t (512 * k) l) ∙ take-all 512 t m
+
+fed-more : (F : Form) (s t : List ℕ) (k : ℕ) → length s ≡ 512 * k → length t ≤ 512 → fedBy F (fedTo F s k) t ≡ fedTo F (s ++ t) (suc k)
+unfolding fedTo
+fed-more F s t k l m = ap₂ (fedBy F) (sym (fed-join F s t k (omega arith))) (sym (piece-last s t k l m))
+
+-- a whole block counts
+pub fed-next : (F : Form) (j : Judging) (s : List ℕ) → length s ≡ 512 → fedBy F j s .next ≡ j .next + 1
+unfolding fedBy firstBy moreBy
+fed-next F j s l = rw l (go (eqb (j .next) 0) refl)
+  where
+    go : (b : Bool) → eqb (j .next) 0 ≡ b → (cond b (firstBy F (j .whole) (bytesFrom s 0)) (moreBy F j (bytesFrom s 0))) .next ≡ j .next + 1
+    go true e = let z = eqb-true (j .next) 0 e in omega arith
+    go false e = refl
+
+-- ---- whole blocks so far: all fed, and held as long as there is room
+pub record Holding (j : Judging) (held : List ℕ) (at : ℕ) : Type 0 where
+  pub fed : List ℕ
+  pub long : length fed ≡ 512 * j .next
+  pub state : j ≡ fedTo release fed (j .next)
+  pub place : at ≡ min (512 * j .next) (512 * (length held / 512))
+  pub same : (n : ℕ) → 512 * n ≤ length fed → 512 * n ≤ length held → take (512 * n) held ≡ take (512 * n) fed
+
+none-same : (held : List ℕ) (n : ℕ) → 512 * n ≤ 0 → take (512 * n) held ≡ take (512 * n) []
+none-same held n l = let z : 512 * n ≡ 0 = omega arith in rw z refl
+
+pub holding-none : (held : List ℕ) → Holding newJudging held 0
+unfolding fedTo
+holding-none held = record { fed = []; long = refl; state = refl; place = omega arith; same = λ n l m. none-same held n l }
+
+-- a block more, which was put where there was room
+put-same : (held fed b : List ℕ) (at n : ℕ) → take at held ≡ fed → 512 * n ≤ length (fed ++ b)
+    → take (512 * n) (written b at held) ≡ take (512 * n) (fed ++ b)
+unfolding written
+put-same held fed b at n all l =
+    let rest = drop (at + length b) held in
+    ap (λ (x : List ℕ). take (512 * n) (x ++ b ++ rest)) all ∙ take-append-le (512 * n) (fed ++ b) rest l
+
+pub holding-more : (j i : Judging) (held left b : List ℕ) (at next : ℕ) → Holding j held at → length b ≡ 512 → i ≡ fedBy release j b
+    → next ≡ putNext b at held → left ≡ putOut b at held → Holding i left next
+holding-more j i held left b at next h l e p q =
+    let k = j .next in
+    let f = h .fed in
+    let n : i .next ≡ k + 1 = ap (λ (x : Judging). x .next) e ∙ fed-next release j b l in
+    let m : length (f ++ b) ≡ 512 * i .next = length-append f b ∙ omega (arith, h .long) in
+    let s : i ≡ fedTo release (f ++ b) (i .next) =
+    e ∙ ap (λ (x : Judging). fedBy release x b) (h .state) ∙ fed-more release f b k (h .long) (omega arith)
+    ∙ ap (fedTo release (f ++ b)) (sym (n ∙ add-one k)) in
+    elim (decLe (at + 512) (length held)) [
+      | yes room ↦
+          let d = put-done b at held _ (omega arith) refl in
+          let w : left ≡ written b at held = q ∙ sym (d .1) in
+          let o : length left ≡ length held = ap length w ∙ written-length b at held (omega arith) in
+          let z : at ≡ 512 * k = omega (arith, h .place) in
+          let all : take at held ≡ f = rw z (h .same k (omega (arith, h .long)) (omega arith) ∙ take-all (512 * k) f (omega (arith, h .long))) in
+          record {
+            fed = f ++ b;
+            long = m;
+            state = s;
+            place = p ∙ sym (d .0) ∙ omega (arith, h .place, o);
+            same = λ x y v. ap (take (512 * x)) w ∙ put-same held f b at x all y;
+          }
+      | no full ↦
+          let d = put-not b at held (omega arith) in
+          let w : left ≡ held = q ∙ sym (d .1) in
+          record {
+            fed = f ++ b;
+            long = m;
+            state = s;
+            place = p ∙ sym (d .0) ∙ omega (arith, h .place, ap length w);
+            same = λ x y v.
+                let u : 512 * x ≤ length f = omega (arith, h .place, h .long, ap length w) in
+                ap (take (512 * x)) w ∙ h .same x u (omega (arith, ap length w)) ∙ sym (take-append-le (512 * x) f b u);
+          }
+    ]
+
+-- ---- at the end: nothing was fed, or what is left is fed
+pub kept-none : (j : Judging) (held : List ℕ) → j ≡ newJudging → Kept j held
+unfolding fedTo
+kept-none j held e = record { input = []; fed = e; same = λ n l m. none-same held n l }
+
+pub kept-all : (j : Judging) (held : List ℕ) (at : ℕ) → Holding j held at → Kept j held
+kept-all j held at h =
+    let n : (length (h .fed) + 511) / 512 ≡ j .next = omega (arith, h .long) in
+    record { input = h .fed; fed = h .state ∙ ap (fedTo release (h .fed)) (sym n); same = h .same }
+
+pub kept-last : (j i : Judging) (held rest : List ℕ) (at : ℕ) → Holding j held at → length rest < 512 → i ≡ fedBy release j rest → Kept i held
+unfolding fedBy
+kept-last j i held [] at h l e = kept-all i held at (rw e h)
+kept-last j i held (x ∷ xs) at h l e =
+    let f = h .fed in
+    let r = x ∷ xs in
+    let n : (length (f ++ r) + 511) / 512 ≡ suc (j .next) = omega (arith, h .long, length-append f r) in
+    record {
+      input = f ++ r;
+      fed = e ∙ ap (λ (y : Judging). fedBy release y r) (h .state) ∙ fed-more release f r (j .next) (h .long) (omega arith)
+          ∙ ap (fedTo release (f ++ r)) (sym n);
+      same = λ y u v.
+          let w : 512 * y ≤ length f = omega (arith, h .long, length-append f r) in
+          h .same y w v ∙ sym (take-append-le (512 * y) f r w);
+    }
+
+-- ---- a table that was judged whole, and is held whole
+pub record Ready (j : Judging) (n : ℕ) : Type 0 where
+  pub fits : Fits (j .bands) (j .rows)
+  pub want : j .want ≡ blocks (j .bands) (j .rows)
+  pub room : 512 * j .want ≤ n
+
+-- its blocks are the input's
+block-cut : (s : List ℕ) (k : ℕ) → 512 * k ≤ length s → blockOf s k ≡ drop (512 * k) (take (512 * suc k) s)
+block-cut s k l =
+    let z : 512 * suc k ≡ 512 * k + 512 = omega arith in
+    sym (ap (λ (n : ℕ). drop (512 * k) (take n s)) z ∙ ap (drop (512 * k)) (take-add (512 * k) 512 s)
+    ∙ drop-at (take (512 * k) s) (blockOf s k) (512 * k) (length-take-le (512 * k) s l))
+
+module _ (j : Judging) (held : List ℕ) (h : Kept j held) (room : tableLimit ≤ length held) (d : Done ≡ finished j) where
+  abbrev s : List ℕ
+  s = h .input
+
+  answer : Done ≡ tableAnswer s
+  answer = d ∙ ap finished (h .fed) ∙ judged-by-blocks release s
+
+  shape : (j .bands ≡ bandsOf (bytesFrom s 0)) × (j .rows ≡ rowsOf (bytesFrom s 0)) × (j .want ≡ blocks (bandsOf (bytesFrom s 0)) (rowsOf (bytesFrom s 0)))
+  shape =
+      let x = shape-is release s answer in
+      (ap (λ (y : Judging). y .bands) (h .fed) ∙ x .0, ap (λ (y : Judging). y .rows) (h .fed) ∙ x .1, ap (λ (y : Judging). y .want) (h .fed) ∙ x .2)
+
+  table : Reads release s (j .bands) (j .rows)
+  table =
+      judged-reads release s (j .bands) (j .rows)
+      (sym (ap (λ a. tableToldOf (tableWith a (shapeOf (bytesFrom s 0)))) answer)
+      ∙ at-values (sym (shape .0)) (sym (shape .1)))
+    where
+      at-values : {b c n m : ℕ} → b ≡ c → n ≡ m → _≡_ {A = ℕ × ℕ × ℕ × ℕ} (0, 0, b, n) (0, 0, c, m)
+      at-values p q = rw (p, q) refl
+
+  want : j .want ≡ blocks (j .bands) (j .rows)
+  want = shape .2 ∙ ap₂ blocks (sym (shape .0)) (sym (shape .1))
+
+  few : 512 * j .want ≤ tableLimit
+  unfolding blocks
+  few =
+      let z : 512 * blocks bandLimit rowLimit ≡ tableLimit = refl in
+      omega (arith, want, blocks-mono (j .bands) bandLimit (j .rows) rowLimit (table .shape .some) (table .shape .most) (omega arith) (table .shape .last))
+
+  pub ready : Ready j (length held)
+  ready = record { fits = reads-known sound table .fits; want = want; room = omega (arith, few) }
+
+  held-blocks : (k : ℕ) → k < j .want → blockOf held k ≡ blockOf s k
+  held-blocks k l =
+      let m : length s ≡ 512 * j .want = table .long ∙ ap (λ (n : ℕ). 512 * n) (sym want) in
+      block-cut held k (omega (arith, few)) ∙ ap (drop (512 * k)) (h .same (suc k) (omega arith) (omega (arith, few))) ∙ sym (block-cut s k (omega arith))
+
+  held-text : textByBlocks release j held ≡ textByBlocks release j s
+  unfolding textByBlocks
+  held-text =
+      ap (λ (t : List ℕ). headLine (j .bands) (j .rows) ++ t)
+      (join-same _ _ (j .want) (λ k l. ap (λ (b : List ℕ). blockLines (j .bands) (j .rows) (bytesFrom b 0) k) (held-blocks k l)))
+
+pub held-shows : HeldShows
+held-shows j held h room = go (finished j) refl ∙ whole
+  where
+    whole : shownBy release (finished j) j (h .input) ≡ listed (h .input)
+    whole = ap (λ (x : Judging). shownBy release (finished x) x (h .input)) (h .fed) ∙ listed-by-blocks release sound (h .input)
+
+    go : (a : Answer) → a ≡ finished j → shownBy release a j held ≡ shownBy release a j (h .input)
+    go Done e = held-text j held h room e
+    go (Refused r) e = refl

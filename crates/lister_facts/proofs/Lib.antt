@@ -1,0 +1,5 @@
+pub mod Judged
+pub mod Blocks
+pub mod Listed
+pub mod Held
+pub mod Older

@@ -1,0 +1,3 @@
+pub mod ByBlocks
+pub mod Held
+pub mod Older
