@@ -5,3 +5,4 @@ pub mod Storing
 pub mod Totals
 pub mod Given
 pub mod Tests
+pub mod Cut

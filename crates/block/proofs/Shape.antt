@@ -1,11 +1,12 @@
 -- Laws of a table's shape, W stored gains to a row: rows of a full block, blocks, rows of block k. Assumes nothing.
 use Prim.Native.Nat.{ℕ, _+_, _-_, _*_, _/_, _%_, _≤_, _<_, min}
-use mathlib.Core.Path.{_≡_, sym, ap, _∙_}
+use mathlib.Core.Path.{_≡_, refl, sym, ap, _∙_}
 use mathlib.Core.List.{List}
 use native.Mathlib.Decide.{decLt}
 use native.Mathlib.Nat.{le-div-iff-mul-le, div-lt-iff-lt-mul, div-mul-le-self, div-le-self, mul-le-mul, mul-le-mul-left, mul-le-mul-right, add-mul, mul-assoc, mul-comm, suc-mul, lt-div-mul-add, mod-lt, div-add-mod'}
 use native.Mathlib.Omega.{arith}
 use lib.ListN.{length}
+use Rattle.answer.specs.Limits.{rowLimit, tableMost}
 use Rattle.block.specs.Block.{perBlock, blocks, heldRows}
 use Rattle.block.specs.Asked.{Storable}
 
@@ -29,7 +30,7 @@ unfolding blocks
 lt-blocks W N k h l = le-div-iff-mul-le h .1 (omega (arith, suc-mul k (perBlock W), mul-comm k (perBlock W)))
 
 -- fewer bands and fewer rows take no more blocks
-pub blocks-mono : (U W N M : ℕ) → 1 ≤ U → U ≤ W → W ≤ 250 → N ≤ M → blocks U N ≤ blocks W M
+blocks-mono : (U W N M : ℕ) → 1 ≤ U → U ≤ W → W ≤ 250 → N ≤ M → blocks U N ≤ blocks W M
 blocks-mono U W N M some wide most rows =
     let n = blocks W M in
     let p : perBlock W ≤ perBlock U = le-div-iff-mul-le some .1 (omega (arith, per-fits W, mul-le-mul-left (perBlock W) wide)) in
@@ -40,7 +41,14 @@ blocks-mono U W N M some wide most rows =
       | no l ↦ omega arith
     ]
 
--- so there are no more blocks than rows
+-- and so no more bytes than the largest table of as many bands
+pub few-bytes : (U W N : ℕ) → 1 ≤ U → U ≤ W → W ≤ 250 → N ≤ rowLimit → 512 * blocks U N ≤ tableMost W
+unfolding blocks
+few-bytes U W N some wide most rows =
+    let z : 512 * blocks W rowLimit ≡ tableMost W = refl in
+    omega (arith, blocks-mono U W N rowLimit some wide most rows)
+
+-- there are no more blocks than rows
 pub few-blocks : (W N k : ℕ) → 1 ≤ perBlock W → k < blocks W N → k < N
 few-blocks W N k h l = omega (arith, blocks-lt W N k h l, mul-le-mul-right k h)
 

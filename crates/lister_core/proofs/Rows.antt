@@ -17,7 +17,7 @@ use Rattle.block.specs.Read.{wordAt, gainIn}
 use Rattle.block.specs.Asked.{Fits}
 use Rattle.block.proofs.Totals.{gain-row}
 use Rattle.block.proofs.Given.{given-whole}
-use Rattle.block.proofs.Shape.{per-pos, blocks-lt, held-small, held-le, held-last}
+use Rattle.block.proofs.Shape.{per-pos, held-small, held-le, held-last}
 use Rattle.table.specs.Release.{release}
 use Rattle.lister_core.specs.Lines.{rowLine}
 use Rattle.lister_core.specs.Lister.{blockLinesBy, blockLines}

@@ -13,10 +13,11 @@ use Rattle.block.specs.Form.{Form, Sound}
 use Rattle.block.specs.Block.{perBlock, blocks, heldRows, given}
 use Rattle.block.specs.Read.{bytesFrom, gainIn, blockOf, tableGainsBy}
 use Rattle.block.proofs.Shape.{per-pos, blocks-lt, held-rows, held-small, rows-fit}
+use Rattle.block.proofs.Cut.{block-byte}
 use Rattle.block.proofs.Given.{given-same}
 use Rattle.table.proofs.Readable.{Reads, reads-known, reads-many}
 use Rattle.table_facts.proofs.Gains.{row-there}
-use Rattle.table_facts.proofs.Part.{block-byte, gain-same}
+use Rattle.table_facts.proofs.Part.{gain-same}
 use Rattle.lister_core.specs.Lines.{headLine, rowLine}
 use Rattle.lister_core.specs.Lister.{tableText, blockLinesBy}
 

@@ -1,64 +1,36 @@
 -- What is held of an input that is read once: `Kept` from block after block, and the text of the held blocks (`HeldShows`). Assumes nothing.
-use Prim.Native.Nat.{ℕ, zero, suc, _+_, _*_, _/_, _≤_, _<_, min}
+use Prim.Native.Nat.{ℕ, suc, _+_, _*_, _/_, _≤_, _<_, min}
 use mathlib.Core.Path.{_≡_, refl, sym, ap, ap₂, _∙_}
-use mathlib.Core.Bool.{Bool, true, false, cond}
 use mathlib.Core.List.{List, [], _∷_, _++_}
 use native.Mathlib.Decide.{decLe}
 use native.Mathlib.Numerals.{add-one}
 use native.Mathlib.Omega.{arith}
-use lib.ListN.{length, take, drop, length-append, length-drop}
-use lib.Seq.{take-all, drop-at, take-add, take-append-le, drop-append-le, length-take-le}
-use lib.Dec.{eqb}
-use borrow.Author.Tests.{eqb-true}
+use lib.ListN.{length, take, drop, length-append}
+use lib.Seq.{take-all, take-append-le}
 use Rattle.lists.proofs.Join.{join-same}
-use Rattle.answer.specs.Limits.{bandLimit, rowLimit, tableLimit}
+use Rattle.answer.specs.Limits.{bandLimit, tableLimit}
 use Rattle.answer.specs.declared.Answer.{Answer}
 use Rattle.answer.specs.declared.Answer.the-variants.{Done, Refused}
 use Rattle.digits.specs.Digits.{written, putOut, putNext}
-use Rattle.digits.proofs.Written.{put-done, put-not, written-length}
-use Rattle.block.specs.Form.{Form}
+use Rattle.digits.proofs.Written.{put-done, put-not, written-length, written-front}
 use Rattle.block.specs.Block.{blocks}
 use Rattle.block.specs.Read.{bytesFrom, bandsOf, rowsOf, blockOf}
 use Rattle.block.specs.Asked.{Fits}
-use Rattle.block.proofs.Shape.{blocks-mono}
+use Rattle.block.proofs.Cut.{block-cut}
+use Rattle.block.proofs.Shape.{few-bytes}
 use Rattle.table.specs.Table.{tableToldOf, tableWith, shapeOf}
 use Rattle.table.specs.Release.{release, tableAnswer}
 use Rattle.table.proofs.Form1.{sound}
 use Rattle.table.proofs.Readable.{Reads, judged-reads, reads-known}
 use Rattle.judging.specs.declared.Judging.{Judging}
-use Rattle.judging.specs.Judging.{newJudging, firstBy, moreBy, fedBy, finished, fedTo, fedAll}
+use Rattle.judging.specs.Judging.{newJudging, fedBy, finished, fedTo}
+use Rattle.judging.proofs.Fed.{fed-start, fed-none, fed-next, fed-more}
 use Rattle.lister_core.specs.Lines.{headLine}
 use Rattle.lister_core.specs.Lister.{blockLines, listed}
 use Rattle.lister_facts.specs.ByBlocks.{textByBlocks, shownBy}
 use Rattle.lister_facts.specs.Held.{Kept, HeldShows}
 use Rattle.lister_facts.proofs.Judged.{judged-by-blocks, shape-is}
 use Rattle.lister_facts.proofs.Listed.{listed-by-blocks}
-
--- ---- a piece more
-block-join : (s t : List ℕ) (k : ℕ) → 512 * k + 512 ≤ length s → blockOf (s ++ t) k ≡ blockOf s k
-block-join s t k l =
-    ap (take 512) (drop-append-le (512 * k) s t (omega arith)) ∙ take-append-le 512 (drop (512 * k) s) t (omega (arith, length-drop (512 * k) s))
-
-fed-join : (F : Form) (s t : List ℕ) (k : ℕ) → 512 * k ≤ length s → fedTo F (s ++ t) k ≡ fedTo F s k
-unfolding fedTo
-fed-join F s t zero l = refl
-fed-join F s t (suc k) l = ap₂ (fedBy F) (fed-join F s t k (omega arith)) (block-join s t k (omega arith))
-
-piece-last : (s t : List ℕ) (k : ℕ) → length s ≡ 512 * k → length t ≤ 512 → blockOf (s ++ t) k ≡ t
-piece-last s t k l m = ap (take 512) (drop-at s t (512 * k) l) ∙ take-all 512 t m
-
-fed-more : (F : Form) (s t : List ℕ) (k : ℕ) → length s ≡ 512 * k → length t ≤ 512 → fedBy F (fedTo F s k) t ≡ fedTo F (s ++ t) (suc k)
-unfolding fedTo
-fed-more F s t k l m = ap₂ (fedBy F) (sym (fed-join F s t k (omega arith))) (sym (piece-last s t k l m))
-
--- a whole block counts
-pub fed-next : (F : Form) (j : Judging) (s : List ℕ) → length s ≡ 512 → fedBy F j s .next ≡ j .next + 1
-unfolding fedBy firstBy moreBy
-fed-next F j s l = rw l (go (eqb (j .next) 0) refl)
-  where
-    go : (b : Bool) → eqb (j .next) 0 ≡ b → (cond b (firstBy F (j .whole) (bytesFrom s 0)) (moreBy F j (bytesFrom s 0))) .next ≡ j .next + 1
-    go true e = let z = eqb-true (j .next) 0 e in omega arith
-    go false e = refl
 
 -- ---- whole blocks so far: all fed, and held as long as there is room
 pub record Holding (j : Judging) (held : List ℕ) (at : ℕ) : Type 0 where
@@ -72,17 +44,9 @@ none-same : (held : List ℕ) (n : ℕ) → 512 * n ≤ 0 → take (512 * n) hel
 none-same held n l = let z : 512 * n ≡ 0 = omega arith in rw z refl
 
 pub holding-none : (held : List ℕ) → Holding newJudging held 0
-unfolding fedTo
-holding-none held = record { fed = []; long = refl; state = refl; place = omega arith; same = λ n l m. none-same held n l }
+holding-none held = record { fed = []; long = refl; state = fed-start release []; place = omega arith; same = λ n l m. none-same held n l }
 
--- a block more, which was put where there was room
-put-same : (held fed b : List ℕ) (at n : ℕ) → take at held ≡ fed → 512 * n ≤ length (fed ++ b)
-    → take (512 * n) (written b at held) ≡ take (512 * n) (fed ++ b)
-unfolding written
-put-same held fed b at n all l =
-    let rest = drop (at + length b) held in
-    ap (λ (x : List ℕ). take (512 * n) (x ++ b ++ rest)) all ∙ take-append-le (512 * n) (fed ++ b) rest l
-
+-- a block more, which is put where there is room
 pub holding-more : (j i : Judging) (held left b : List ℕ) (at next : ℕ) → Holding j held at → length b ≡ 512 → i ≡ fedBy release j b
     → next ≡ putNext b at held → left ≡ putOut b at held → Holding i left next
 holding-more j i held left b at next h l e p q =
@@ -105,7 +69,7 @@ holding-more j i held left b at next h l e p q =
             long = m;
             state = s;
             place = p ∙ sym (d .0) ∙ omega (arith, h .place, o);
-            same = λ x y v. ap (take (512 * x)) w ∙ put-same held f b at x all y;
+            same = λ x y v. ap (take (512 * x)) w ∙ written-front b at held f (512 * x) all y;
           }
       | no full ↦
           let d = put-not b at held (omega arith) in
@@ -123,8 +87,7 @@ holding-more j i held left b at next h l e p q =
 
 -- ---- at the end: nothing was fed, or what is left is fed
 pub kept-none : (j : Judging) (held : List ℕ) → j ≡ newJudging → Kept j held
-unfolding fedTo
-kept-none j held e = record { input = []; fed = e; same = λ n l m. none-same held n l }
+kept-none j held e = record { input = []; fed = e ∙ fed-start release []; same = λ n l m. none-same held n l }
 
 pub kept-all : (j : Judging) (held : List ℕ) (at : ℕ) → Holding j held at → Kept j held
 kept-all j held at h =
@@ -132,8 +95,7 @@ kept-all j held at h =
     record { input = h .fed; fed = h .state ∙ ap (fedTo release (h .fed)) (sym n); same = h .same }
 
 pub kept-last : (j i : Judging) (held rest : List ℕ) (at : ℕ) → Holding j held at → length rest < 512 → i ≡ fedBy release j rest → Kept i held
-unfolding fedBy
-kept-last j i held [] at h l e = kept-all i held at (rw e h)
+kept-last j i held [] at h l e = kept-all i held at (rw (e ∙ fed-none release j) h)
 kept-last j i held (x ∷ xs) at h l e =
     let f = h .fed in
     let r = x ∷ xs in
@@ -152,13 +114,6 @@ pub record Ready (j : Judging) (n : ℕ) : Type 0 where
   pub fits : Fits (j .bands) (j .rows)
   pub want : j .want ≡ blocks (j .bands) (j .rows)
   pub room : 512 * j .want ≤ n
-
--- its blocks are the input's
-block-cut : (s : List ℕ) (k : ℕ) → 512 * k ≤ length s → blockOf s k ≡ drop (512 * k) (take (512 * suc k) s)
-block-cut s k l =
-    let z : 512 * suc k ≡ 512 * k + 512 = omega arith in
-    sym (ap (λ (n : ℕ). drop (512 * k) (take n s)) z ∙ ap (drop (512 * k)) (take-add (512 * k) 512 s)
-    ∙ drop-at (take (512 * k) s) (blockOf s k) (512 * k) (length-take-le (512 * k) s l))
 
 module _ (j : Judging) (held : List ℕ) (h : Kept j held) (room : tableLimit ≤ length held) (d : Done ≡ finished j) where
   abbrev s : List ℕ
@@ -185,10 +140,7 @@ module _ (j : Judging) (held : List ℕ) (h : Kept j held) (room : tableLimit �
   want = shape .2 ∙ ap₂ blocks (sym (shape .0)) (sym (shape .1))
 
   few : 512 * j .want ≤ tableLimit
-  unfolding blocks
-  few =
-      let z : 512 * blocks bandLimit rowLimit ≡ tableLimit = refl in
-      omega (arith, want, blocks-mono (j .bands) bandLimit (j .rows) rowLimit (table .shape .some) (table .shape .most) (omega arith) (table .shape .last))
+  few = omega (arith, want, few-bytes (j .bands) bandLimit (j .rows) (table .shape .some) (table .shape .most) (omega arith) (table .shape .last))
 
   pub ready : Ready j (length held)
   ready = record { fits = reads-known sound table .fits; want = want; room = omega (arith, few) }

@@ -19,8 +19,9 @@ use Rattle.answer.proofs.Joined.{judged-else, parted}
 use Rattle.block.specs.Form.{Form}
 use Rattle.block.specs.Block.{blocks}
 use Rattle.block.specs.Read.{bytesFrom, bandsOf, rowsOf, blockTestsBy, blockOf, headTestsBy, bodyTestsBy, tableAnswerBy}
+use Rattle.block.proofs.Cut.{block-byte, block-long}
 use Rattle.table.proofs.Reading.{runsOf, begun, begun-head}
-use Rattle.table_facts.proofs.Part.{block-byte, block-long, checks-same, head-same, word-same, tests-same}
+use Rattle.table_facts.proofs.Part.{checks-same, head-same, word-same, tests-same}
 use Rattle.judging.specs.declared.Judging.{Judging}
 use Rattle.judging.specs.Judging.{firstTestsBy, firstBy, moreBy, fedBy, finished, piecesIn, fedTo, fedAll}
 use Rattle.lister_facts.specs.ByBlocks.{JudgedByBlocks}

@@ -1,16 +1,15 @@
 -- The lister of the release before this one (`OlderLister`, `KeepsText`). Assumes nothing.
-use Prim.Native.Nat.{ℕ, _*_, _≤_}
-use mathlib.Core.Path.{_≡_, refl, sym, ap, ap₂, _∙_}
+use Prim.Native.Nat.{_≤_}
+use mathlib.Core.Path.{sym, ap, ap₂, _∙_}
 use mathlib.Core.Bool.{cond}
-use mathlib.Core.List.{List, []}
+use mathlib.Core.List.{[]}
 use native.Mathlib.Omega.{arith}
 use lib.ListN.{length}
 use lib.Dec.{ltb}
 use borrow.Author.Tests.{le-ltb}
-use Rattle.answer.specs.Limits.{bandLimit, rowLimit, tableMost}
-use Rattle.block.specs.Block.{blocks}
+use Rattle.answer.specs.Limits.{bandLimit, tableMost}
 use Rattle.block.specs.Read.{bytesFrom, bandsOf, tableGainsBy}
-use Rattle.block.proofs.Shape.{blocks-mono}
+use Rattle.block.proofs.Shape.{few-bytes}
 use Rattle.table.specs.Release.{release}
 use Rattle.table.proofs.Form1.{sound}
 use Rattle.table.proofs.Readable.{judged-reads}
@@ -30,11 +29,10 @@ older-lister s B N e h =
     (ap (λ x. answerText x (tableGainsBy older s)) t ∙ sym (refused-text 11 0 0 0 (tableGainsBy older s) (omega arith)))
 
 pub keeps-text : KeepsText
-unfolding cappedBy listedBy blocks
+unfolding cappedBy listedBy
 keeps-text s B N e h =
     let r = judged-reads release s B N e in
-    let m = blocks-mono B olderBands N rowLimit (r .shape .some) h (omega arith) (r .shape .last) in
-    let z : 512 * blocks olderBands rowLimit ≡ tableMost olderBands = refl in
+    let m = few-bytes B olderBands N (r .shape .some) h (omega arith) (r .shape .last) in
     let low : bandsOf (bytesFrom s 0) ≤ olderBands = omega (arith, r .bands) in
     let top : bandsOf (bytesFrom s 0) ≤ bandLimit = omega (arith, r .bands, r .shape .most) in
     rw (le-ltb (tableMost olderBands) (length s) (omega (arith, r .long)))

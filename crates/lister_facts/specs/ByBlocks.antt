@@ -1,6 +1,6 @@
 -- The claims on a table that is judged and listed block by block, for any form: after the blocks of an input, a cut last one too, the judging has
 -- the table's answer, and the lines of the blocks joined are the lister's text. Statements only.
-use Prim.Native.Nat.{ℕ, _*_}
+use Prim.Native.Nat.{ℕ}
 use mathlib.Core.Path.{_≡_}
 use mathlib.Core.List.{List, _++_}
 use Rattle.lists.specs.Lists.{joinTo}

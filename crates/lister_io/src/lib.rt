@@ -58,6 +58,7 @@ fn judge_input(from: i32, held: &mut [u8]) -> Judging
     let mut block = [0u8; 512];
     let mut j = start();
     let mut at = 0;
+    // No input has as many blocks.
     while j.next < 18446744073709551615 {
         let n = io::read_full(from, &mut block);
         if n < 512 {

@@ -13,11 +13,12 @@ use Rattle.block.specs.Form.{Form, Sound}
 use Rattle.block.specs.Block.{blocks, heldRows}
 use Rattle.block.specs.Read.{bytesFrom, blockOf, wordAt, bandsOf, rowsOf, blockTestsBy, blockAnswerBy}
 use Rattle.table.specs.Table.{blockToldOf, blockWith, headerBy, blockToldBy}
+use Rattle.block.proofs.Cut.{block-byte, block-long}
 use Rattle.block.proofs.Tests.{head-is}
 use Rattle.table.proofs.Reading.{Good, good, good-passes}
 use Rattle.table.proofs.Readable.{Reads, block-done, reads, reads-some, judged-reads, told-read, told-judged}
 use Rattle.table_facts.specs.Trips.{EachReads, ReadersAgree, JudgedAgrees}
-use Rattle.table_facts.proofs.Part.{block-byte, block-long, word-same, tests-same}
+use Rattle.table_facts.proofs.Part.{word-same, tests-same}
 
 module _ (F : Form) (s : List ℕ) (B N k : ℕ) where
   f : ℕ → ℕ

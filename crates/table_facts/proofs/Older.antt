@@ -8,7 +8,7 @@ use native.Mathlib.Omega.{arith}
 use lib.ListN.{length}
 use Rattle.answer.specs.Answer.{judged, whenDone}
 use Rattle.answer.specs.Limits.{bandLimit}
-use Rattle.answer.specs.declared.Answer.the-variants.{Done, Refused}
+use Rattle.answer.specs.declared.Answer.the-variants.{Refused}
 use Rattle.answer.specs.declared.Refusal.the-variants.{Header}
 use Rattle.answer.proofs.Chain.{opened, gives, stop, skip}
 use Rattle.answer.proofs.Joined.{parted}

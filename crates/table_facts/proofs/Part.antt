@@ -1,28 +1,18 @@
 -- The tests of a block look at its 512 bytes only: bytes that agree there are judged alike. Assumes nothing.
 use Prim.Native.Nat.{ℕ, suc, _+_, _-_, _*_, _≤_, _<_}
-use mathlib.Core.Path.{_≡_, refl, sym, ap, _∙_}
-use mathlib.Core.List.{List}
-use native.Mathlib.Nat.{mul-le-mul-right, suc-mul, zero-add}
+use mathlib.Core.Path.{_≡_, refl, sym, ap}
+use native.Mathlib.Nat.{mul-le-mul-right, suc-mul}
 use native.Mathlib.Omega.{arith}
-use lib.ListN.{length, getD, drop, length-take, length-drop}
-use lib.Seq.{getD-take, getD-drop}
 use lib.Dec.{leb, eqb}
 use Rattle.lists.proofs.First.{first-same}
 use Rattle.block.specs.Form.{Form}
 use Rattle.block.specs.Block.{heldRows, given}
 use Rattle.block.specs.Write.{rowOk, badRow}
-use Rattle.block.specs.Read.{bytesFrom, blockOf, wordAt, gainIn, checksOk, headOkBy, blank, rowTestsBy, blockTestsBy}
+use Rattle.block.specs.Read.{wordAt, gainIn, checksOk, headOkBy, blank, rowTestsBy, blockTestsBy}
 use Rattle.block.proofs.Shape.{held-small}
 use Rattle.block.proofs.Bytes.{checkA-same, checkB-same}
 use Rattle.block.proofs.Totals.{row-same}
 use Rattle.block.proofs.Given.{given-same}
-
-pub block-byte : (s : List ℕ) (k i : ℕ) → i < 512 → bytesFrom (blockOf s k) 0 i ≡ bytesFrom s (512 * k) i
-block-byte s k i l =
-    ap (λ (x : ℕ). getD (blockOf s k) x 0) (zero-add i) ∙ getD-take 512 (drop (512 * k) s) i 0 l ∙ getD-drop (512 * k) s i 0
-
-pub block-long : (s : List ℕ) (k : ℕ) → 512 * k + 512 ≤ length s → length (blockOf s k) ≡ 512
-block-long s k h = simp (length-take, length-drop) (omega arith)
 
 module _ (f g : ℕ → ℕ) (same : (i : ℕ) → i < 512 → f i ≡ g i) where
   pub word-same : (i : ℕ) → i < 511 → wordAt f i ≡ wordAt g i

@@ -8,7 +8,7 @@ use Rattle.block.specs.Block.{blocks}
 use Rattle.block.specs.Write.{writeToldBy, writeOutBy}
 use Rattle.block.specs.Read.{bytesFrom, bandsOf, blockOf, readOutBy}
 use Rattle.table.specs.Table.{blockToldBy, tableToldBy, readToldBy}
-use Rattle.table.specs.Release.{release, writeTold, writeOut, readTold, readOut, tableTold}
+use Rattle.table.specs.Release.{release, writeTold, writeOut, readTold, readOut}
 
 -- the form, with m bands at most
 abbrev pub upTo : Form → ℕ → Form

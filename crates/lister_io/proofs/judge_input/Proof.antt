@@ -6,7 +6,8 @@ use native.Mathlib.Omega.{arith}
 use lib.ListN.{length}
 use Rattle.table.specs.Release.{release}
 use Rattle.judging.specs.declared.Judging.{Judging}
-use Rattle.lister_facts.proofs.Held.{Holding, fed-next, holding-none, holding-more, kept-none, kept-last, kept-all}
+use Rattle.judging.proofs.Fed.{fed-next}
+use Rattle.lister_facts.proofs.Held.{Holding, holding-none, holding-more, kept-none, kept-last, kept-all}
 use Rattle.lister_io.proofs.judge_input.Statement.{statement}
 use Rattle.lister_io.proofs.judge_input.Tie as tie
 

@@ -2,7 +2,7 @@ use mathlib.Core.Path.{sym}
 use native.Mathlib.Omega.{arith}
 use lib.Seq.{length-take-le}
 use borrow.Author.Needs.{needs}
-use Rattle.digits.proofs.Written.{wrote-length}
+use Rattle.digits.proofs.Written.{wrote-part}
 use Rattle.tabulate_core.proofs.Told.{told-fits}
 use Rattle.tabulate_io.proofs.show.Statement.{statement}
 use Rattle.tabulate_io.proofs.show.Tie as tie
@@ -48,9 +48,7 @@ slice-reshare-prefix-write-all-2 : tie.Need-slice-reshare-prefix-write-all-2
 slice-reshare-prefix-write-all-2 c = search needs
 
 slice-aggregate-write-all-2 : tie.Need-slice-aggregate-write-all-2
-slice-aggregate-write-all-2 c =
-    let e = c .before .before .before .put-refused .ensures in
-    sym (length-take-le _ _ (omega (arith, e .fits, wrote-length e)))
+slice-aggregate-write-all-2 c = wrote-part (c .before .before .before .put-refused .ensures)
 
 write-all-requires-2 : tie.Need-write-all-requires-2
 write-all-requires-2 c κs = search needs
