@@ -142,7 +142,7 @@ def split_table():
 
 # ---- null_test.c
 
-BINS, BANDS, SAMPLES = 256, 6, 8
+BINS, SAMPLES = 256, 8
 
 
 def drawn():
@@ -167,15 +167,17 @@ def tallied(name, bins):
 
 
 def null_test():
-    draw, split, alone = drawn(), [], []
-    for _ in range(BINS):
-        levels = [pattern(Fraction(-(next(draw) >> 22), 64)) for _ in range(BANDS)]
-        dry = [(next(draw) >> 8) - 2**23 for _ in range(SAMPLES)]
-        split.append((exact.gains(levels), dry))
-        alone.append(([(32768 * w + Fraction(1, 2)).__floor__() for w in exact.weights(levels)], dry))
-    yield f"{BINS} bins, {BANDS} bands, {BINS * SAMPLES} samples of 24 bits"
-    yield from tallied("split", split)
-    yield from tallied("each gain rounded by itself", alone)
+    draw = drawn()
+    for bands in 6, exact.BAND_LIMIT:
+        split, alone = [], []
+        for _ in range(BINS):
+            levels = [pattern(Fraction(-(next(draw) >> 22), 64)) for _ in range(bands)]
+            dry = [(next(draw) >> 8) - 2**23 for _ in range(SAMPLES)]
+            split.append((exact.gains(levels), dry))
+            alone.append(([(32768 * w + Fraction(1, 2)).__floor__() for w in exact.weights(levels)], dry))
+        yield f"{BINS} bins, {bands} bands, {BINS * SAMPLES} samples of 24 bits"
+        yield from tallied("split", split)
+        yield from tallied("each gain rounded by itself", alone)
 
 
 # ---- overs.c

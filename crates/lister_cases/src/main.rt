@@ -41,7 +41,7 @@ fn changed(first: &[u8], second: &[u8]) {
     libc::close(then);
 }
 
-fn main() {
+fn sixteen() {
     case(b"one");
     case(b"two_blocks");
     case(b"full");
@@ -53,17 +53,29 @@ fn main() {
     case(b"header");
     case(b"row");
     case(b"unused");
+}
+
+fn wide() {
     case(b"wide_17");
     case(b"wide_63");
     case(b"wide_64");
     case(b"wide_65");
     case(b"longer");
     case(b"late");
-    unreadable(b"no_such_file");
-    unreadable(b".");
+}
+
+fn again() {
     changed(b"two_blocks", b"changed_row");
     changed(b"two_blocks", b"changed_first");
     changed(b"two_blocks", b"one");
     changed(b"two_blocks", b"cut");
     changed(b"two_blocks", b"empty");
+}
+
+fn main() {
+    sixteen();
+    wide();
+    unreadable(b"no_such_file");
+    unreadable(b".");
+    again();
 }

@@ -11,7 +11,6 @@ ghost use Rattle.block.specs.Block.{blocks};
 ghost use Rattle.block.specs.Read.{bytesFrom};
 ghost use Rattle.block.specs.Asked.{Fits};
 ghost use Rattle.table.specs.Release.{blockTests};
-ghost use Rattle.lister_facts.specs.Held.{Kept};
 use answer::Answer;
 use answer::Refusal;
 use answer::is_done;
@@ -19,11 +18,8 @@ use answer::limits::BLOCK_ROOM;
 use answer::limits::TABLE_LIMIT;
 use answer::number;
 use answer::place;
-use digits::put_text;
-use judging::Judging;
-use judging::feed;
+use judged_input::judge_input;
 use judging::finish;
-use judging::start;
 use libc::SEEK_CUR;
 use libc::SEEK_SET;
 use libc::STDERR_FILENO;
@@ -43,34 +39,6 @@ fn text_buffer() -> [u8; BLOCK_ROOM]
     ensures { λ r. ⌜ blockRoom ≡ length r ⌝ }
 {
     [0; BLOCK_ROOM]
-}
-
-// A short read is the end of the input or a failure; only at the end does one more give nothing.
-fn at_end(from: i32) -> bool {
-    let mut more = [0u8; 1];
-    libc::read(from, &mut more) == 0
-}
-
-// Judges all that the descriptor gives, and holds its first blocks, as many as there is room for. What cannot be read to its end counts as empty.
-fn judge_input(from: i32, held: &mut [u8]) -> Judging
-    ensures { λ r. ⌜ Kept r (now (held .exit)) ⌝ }
-{
-    let mut block = [0u8; 512];
-    let mut j = start();
-    let mut at = 0;
-    // No input has as many blocks.
-    while j.next < 18446744073709551615 {
-        let n = io::read_full(from, &mut block);
-        if n < 512 {
-            if at_end(from) {
-                return feed(j, &block[..n]);
-            }
-            return start();
-        }
-        j = feed(j, &block);
-        at = put_text(&block, at, held);
-    }
-    j
 }
 
 fn refuse(a: Answer, text: &mut [u8])

@@ -8,8 +8,8 @@ use Rattle.table.specs.Release.{release}
 use Rattle.judging.specs.declared.Judging.{Judging}
 use Rattle.judging.proofs.Fed.{fed-next}
 use Rattle.lister_facts.proofs.Held.{Holding, holding-none, holding-more, kept-none, kept-last, kept-all}
-use Rattle.lister_io.proofs.judge_input.Statement.{statement}
-use Rattle.lister_io.proofs.judge_input.Tie as tie
+use Rattle.judged_input.proofs.judge_input.Statement.{statement}
+use Rattle.judged_input.proofs.judge_input.Tie as tie
 
 abbrev Inv-loop : tie.InvT-loop
 Inv-loop from held₀ block₀ j₀ at₀ held block j at = (length held ≡ length held₀) × (length block ≡ 512) × Holding j held at
