@@ -13,7 +13,7 @@ use Rattle.block.specs.Asked.{Fits}
 use Rattle.block.proofs.Tests.{Head, head-is, shape-fits}
 use Rattle.judging.specs.Judging.{firstTestsBy}
 
-pub first-head : {F : Form} (f : ℕ → ℕ) → Done ≡ judged (firstTestsBy F f) → Head F f 0
+first-head : {F : Form} (f : ℕ → ℕ) → Done ≡ judged (firstTestsBy F f) → Head F f 0
 unfolding firstTestsBy
 first-head f d = let x = opened _ _ _ d in let y = opened _ _ _ (x .1) in head-is f 0 (not-false _ (y .0))
 
