@@ -8,7 +8,7 @@ struct lent {
     size_t n, bytes_n;
     const float *src, *scales, *biases;
     float *dst;
-    uint8_t *codes, *bytes;
+    uint8_t *codes, *bytes, *moved;
     uint16_t *gains;
 };
 
@@ -68,23 +68,35 @@ static void other_kernels(const struct lent *l) {
     printf("\n");
 }
 
+/* A table of one row: header and stored gains, then the checks. */
+static void told_table(const char *name, uint64_t answer, const uint8_t *bytes, size_t n, size_t stored) {
+    show_answer(name, answer);
+    for (size_t i = 0; i < n; i = i + 1 == 8 + 2 * stored ? 508 : i + 1)
+        printf(" %02x", bytes[i]);
+    printf("\n");
+}
+
+static void tables(const struct lent *l) {
+    const size_t n = l->bytes_n;
+    uint32_t form = 77, bands = 77, rows = 77, held = 77;
+    told_table("table_write", mst_table_write(N, 1, l->gains, l->n, l->bytes, n), l->bytes, n, N);
+    show_answer("table_read", mst_table_read(l->bytes, n, l->gains, l->n, &bands, &rows));
+    printf(" %u %u\n", bands, rows);
+    show_answer("table_read_block", mst_table_read_block(0, l->bytes, n, &form, &bands, &rows, &held));
+    printf(" %u %u %u %u\n", form, bands, rows, held);
+    told_table("table_to_form_2", mst_table_to_form_2(l->bytes, n, l->moved, n), l->moved, n, N - 1);
+    told_table("table_to_form_1", mst_table_to_form_1(l->moved, n, l->bytes, n), l->bytes, n, N);
+}
+
 static void ours(const struct lent *l) {
     mst_meter meter = mst_meter_new();
-    uint32_t form = 77, bands = 77, rows = 77, held = 77;
     show_answer("split", mst_split(l->src, l->n, l->gains, l->n));
     for (size_t i = 0; i < l->n; i++)
         printf(" %u", l->gains[i]);
     printf("\n");
     show_answer("meter_feed", mst_feed(&meter, l->src, l->n));
     printf(" %u %u %08x %08x %08x\n", meter.count, meter.overs, bits(meter.sum_squares), bits(meter.least), bits(meter.largest));
-    show_answer("table_write", mst_table_write(N, 1, l->gains, l->n, l->bytes, l->bytes_n));
-    for (size_t i = 0; i < l->bytes_n; i = i == 13 ? 508 : i + 1) /* header, three gains; the checks */
-        printf(" %02x", l->bytes[i]);
-    printf("\n");
-    show_answer("table_read", mst_table_read(l->bytes, l->bytes_n, l->gains, l->n, &bands, &rows));
-    printf(" %u %u\n", bands, rows);
-    show_answer("table_read_block", mst_table_read_block(0, l->bytes, l->bytes_n, &form, &bands, &rows, &held));
-    printf(" %u %u %u %u\n", form, bands, rows, held);
+    tables(l);
 }
 
 static void all(const char *title, const struct lent *l) {
@@ -98,10 +110,10 @@ static void all(const char *title, const struct lent *l) {
 int main(void) {
     static const float src[N] = {-1, -0.5f, -2}, scales[N] = {1, 2, 4}, biases[N] = {0.25f, 0.5f, -1};
     static float dst[N];
-    static uint8_t codes[N], bytes[MST_BLOCK_BYTES];
+    static uint8_t codes[N], bytes[MST_BLOCK_BYTES], moved[MST_BLOCK_BYTES];
     static uint16_t gains[N];
-    const struct lent some = {N, MST_BLOCK_BYTES, src, scales, biases, dst, codes, bytes, gains};
-    const struct lent none = {0, 0, NULL, NULL, NULL, NULL, NULL, NULL, NULL};
+    const struct lent some = {N, MST_BLOCK_BYTES, src, scales, biases, dst, codes, bytes, moved, gains};
+    const struct lent none = {0, 0, NULL, NULL, NULL, NULL, NULL, NULL, NULL, NULL};
     const float masked[2] = {-INFINITY, -INFINITY};
     uint32_t bands = 77, rows = 77;
 
@@ -114,5 +126,7 @@ int main(void) {
     told("split without gains", mst_split(src, N, NULL, 0), NULL, 0);
     told("table_write without bytes", mst_table_write(N, 1, gains, N, NULL, 0), NULL, 0);
     told("table_read without gains", mst_table_read(bytes, sizeof bytes, NULL, 0, &bands, &rows), NULL, 0);
+    told("table_to_form_1 without result", mst_table_to_form_1(bytes, sizeof bytes, NULL, 0), NULL, 0);
+    told("table_to_form_2 without result", mst_table_to_form_2(bytes, sizeof bytes, NULL, 0), NULL, 0);
     return 0;
 }

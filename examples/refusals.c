@@ -9,6 +9,7 @@ enum { ROWS = 251, LENGTH = 2 * MST_BLOCK_BYTES };
 static struct {
     float dst[3];
     uint16_t gains[ROWS];
+    uint8_t moved[LENGTH];
     uint32_t form, bands, rows, held;
 } lent, start;
 
@@ -63,6 +64,7 @@ static void tables(void) {
     block[88] = 0;
     add(block + 508, 65535);
     add(block + 510, 65536 - 89);
+    TOLD(MST_ONE_BAND, mst_table_to_form_2(bytes, LENGTH, lent.moved, LENGTH));
     told("and MST_DONE", MST_DONE, read_all(bytes, LENGTH));
 }
 
@@ -71,6 +73,7 @@ int main(void) {
         start.dst[i] = 7;
     for (int i = 0; i < ROWS; i++)
         start.gains[i] = 7;
+    memset(start.moved, 7, LENGTH);
     start.form = start.bands = start.rows = start.held = 7;
     lent = start;
     kernels();

@@ -3,12 +3,6 @@
 
 enum { BANDS = 4, ROWS = 64 };
 
-/* The bytes of a table, as document 01 counts them. */
-static size_t table_bytes(size_t bands, size_t rows) {
-    size_t rows_of_block = MST_BLOCK_GAINS / bands;
-    return (rows + rows_of_block - 1) / rows_of_block * MST_BLOCK_BYTES;
-}
-
 /* Levels are natural logarithms; minus infinity mutes a band. */
 static void levels_of(int row, float levels[BANDS]) {
     levels[0] = 0.0f;
@@ -40,7 +34,7 @@ int main(void) {
     static uint8_t bytes[2 * MST_BLOCK_BYTES];
     uint32_t form, bands, rows, held;
     uint64_t answer;
-    const size_t length = table_bytes(BANDS, ROWS);
+    const size_t length = mst_table_length(1, BANDS, ROWS);
 
     printf("rows that add up to 32768: %d of %d\n", split_rows(gains), ROWS);
     show_answer("written", mst_table_write(BANDS, ROWS, gains[0], ROWS * BANDS, bytes, length));

@@ -11,8 +11,9 @@
 
    NULL WITH LENGTH 0 is an empty slice, in every call: it is not followed. Operators, softmax, normalize and quantize answer 0 and
    write nothing; sums give +0; extremes give +infinity and -infinity; a feeding keeps the meter; split answers 7; writing answers 1
-   (no gains) or 9 (no bytes); reading answers 9 (no bytes) or 1 (no gains). A setting that is not finite is refused all the same.
-   Tried by examples/calls.c. A pointer without a length (result, least, count, bands, ..) is always followed: never NULL.
+   (no gains) or 9 (no bytes); reading answers 9 (no bytes) or 1 (no gains); a move answers 9 (no bytes, or no result). A setting
+   that is not finite is refused all the same. Tried by examples/calls.c. A pointer without a length (result, least, count, bands, ..)
+   is always followed: never NULL.
 
    REFUSALS. Any refusal keeps every lent buffer and number unchanged. `result`, `least` and `largest` of sums and extremes are
    part of the answer, not lent: they are written on every call, +0 where it refuses. "Refuses 1, 2, 4" names the numbers that a
@@ -47,11 +48,14 @@ enum {
     MST_MASKED = 5,         /* all masked: split; or softmax of one or more elements, flush off */
     MST_RESULT = 6,         /* normalize would yield NaN; place: the first such */
     MST_COUNT = 7,          /* bands outside 1..64, or rows outside 1..1,024 */
-    MST_ROW_TOTAL = 8,      /* row not adding up to 32768; place: the row, from 0 through the table */
+    MST_ROW_TOTAL = 8,      /* row not adding up to 32768, or in form 2 stored gains that pass it; place: the row, from 0 through
+                               the table */
     MST_STORED_LENGTH = 9,  /* stored length wrong */
     MST_CHECK = 10,         /* check wrong; place: the block */
-    MST_HEADER = 11,        /* form, block number, bands or rows wrong, or bands or rows unlike block 0; place: the block */
-    MST_UNUSED = 12         /* unused byte not zero; place: the block */
+    MST_HEADER = 11,        /* form, block number, bands or rows wrong (one band in form 2 too), or form, bands or rows unlike
+                               block 0; place: the block */
+    MST_UNUSED = 12,        /* unused byte not zero; place: the block */
+    MST_ONE_BAND = 15       /* a one-band table has no form 2 */
 };
 
 enum {
@@ -60,7 +64,7 @@ enum {
     MST_MOST_BANDS = 64,
     MST_MOST_ROWS = 1024,
     MST_BLOCK_BYTES = 512,
-    MST_BLOCK_GAINS = 250      /* room of a block: floor(250 / bands) rows */
+    MST_BLOCK_GAINS = 250      /* room of a block, for whole rows of stored gains */
 };
 
 /* An answer is one word: the number in the low 8 bits, the place above. It is 0 exactly when the call is done. */
@@ -174,17 +178,41 @@ static inline uint64_t mst_feed(mst_meter *meter, const float *src, size_t n) {
     return mst_meter_feed(&meter->count, &meter->overs, &meter->sum_squares, &meter->least, &meter->largest, src, n);
 }
 
-/* ---- Stored table: ceil(rows / floor(250 / bands)) blocks of 512 bytes, from rows of gains that each add up to 32768 */
+/* ---- Stored table: rows of gains that each add up to 32768, in blocks of 512 bytes. Form 1, of 1 to 64 bands, stores every gain;
+   form 2, of 2 to 64 bands, leaves each row's last one out, and the reader works it out. All blocks of a table have one form, and
+   each but the last holds floor(250 / stored gains of a row) rows. */
 
-/* Writes rows times bands gains, row after row. Refuses 7, 1 (n is not rows times bands), 9 (m is not 512 times the blocks), 8. */
+/* The bytes of a table of that form; 0 where there is none (form not 1 or 2, bands or rows outside). */
+static inline size_t mst_table_length(uint32_t form, uint32_t bands, uint32_t rows) {
+    const uint32_t stored = form == 2 && bands > 0 ? bands - 1 : form == 1 ? bands : 0;
+    if (stored < 1 || bands > MST_MOST_BANDS || rows < 1 || rows > MST_MOST_ROWS)
+        return 0;
+    const uint32_t held = MST_BLOCK_GAINS / stored;
+    return (size_t)((rows + held - 1) / held) * MST_BLOCK_BYTES;
+}
+/* The bytes that the table in `bytes` takes in that form, by the bands and rows of its first header, which is not judged here; 0
+   where n is below 8 or there is no such table. */
+static inline size_t mst_table_length_in(uint32_t form, const uint8_t *bytes, size_t n) {
+    return n < 8 ? 0 : mst_table_length(form, bytes[4] + 256u * bytes[5], bytes[6] + 256u * bytes[7]);
+}
+
+/* Writes rows times bands gains, row after row, in form 1. Refuses 7, 1 (n is not rows times bands), 9 (m is not
+   mst_table_length(1, bands, rows)), 8. */
 uint64_t mst_table_write(uint32_t bands, uint32_t rows, const uint16_t *gains, size_t n, uint8_t *bytes, size_t m);
-/* Reads a whole table: gains, bands and rows, all kept on a refusal. Refuses 9 (empty or no multiple of 512), then blocks upward,
-   in each 10, 11, for block 0 also 9 (not as many blocks as it says) and 1 (m is not rows times bands), then 8, then 12. */
+/* Reads a whole table of either form: gains, bands and rows, all kept on a refusal. Refuses 9 (empty or no multiple of 512), then
+   blocks upward, in each 10, 11, for block 0 also 9 (not as many blocks as it says) and 1 (m is not rows times bands), then 8, then
+   12. */
 uint64_t mst_table_read(const uint8_t *bytes, size_t n, uint16_t *gains, size_t m, uint32_t *bands, uint32_t *rows);
-/* Reads one block, which should be block `number`: its header and `held`, the rows it holds, all kept on a refusal. Refuses 9
-   (n is not 512), 10, 11, 8, 12; the place of 10, 11 and 12 is `number`, that of 8 the row through the table. */
+/* Reads one block of either form, which should be block `number`: its header and `held`, the rows it holds, all kept on a refusal.
+   Refuses 9 (n is not 512), 10, 11, 8, 12; the place of 10, 11 and 12 is `number`, that of 8 the row through the table. */
 uint64_t mst_table_read_block(uint32_t number, const uint8_t *bytes, size_t n, uint32_t *form, uint32_t *bands, uint32_t *rows,
                               uint32_t *held);
+/* Moves a table of either form to form 1: the same rows. One that has that form is copied; there and back gives the same bytes.
+   result is lent: kept on a refusal. Refuses as mst_table_read, but for 1; then 9 (m is not mst_table_length_in(1, bytes, n)). */
+uint64_t mst_table_to_form_1(const uint8_t *bytes, size_t n, uint8_t *result, size_t m);
+/* The same to form 2. Refuses as mst_table_read, but for 1; then 15 (one band); then 9 (m is not
+   mst_table_length_in(2, bytes, n)). */
+uint64_t mst_table_to_form_2(const uint8_t *bytes, size_t n, uint8_t *result, size_t m);
 
 #ifdef __cplusplus
 }

@@ -9,8 +9,7 @@
 struct job {
     size_t n;
     const float *src, *scales, *biases;
-    const uint16_t *gains;
-    const uint8_t *bytes;
+    const void *table; /* no loop here has one */
     void *dst; /* everything that the call gives, from its start on */
     float alpha, offset, inv_scale, pre_scale_bias, scale, bias;
     uint8_t zero_point;

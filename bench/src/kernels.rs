@@ -1,6 +1,7 @@
 //! The kernels: ours, the Rust, and what is asked of their ratio.
 
-use crate::job::{BANDS, Job, ROWS, table_bytes};
+use crate::calls::calls;
+use crate::job::Job;
 use crate::library::*;
 use reference::normalize::{By, Settings};
 use reference::sum::Kind;
@@ -24,16 +25,15 @@ pub struct Kernel {
     pub goal: bool,
 }
 
-const USUAL: (f32, f32) = (-6.0, 6.0);
+pub const USUAL: (f32, f32) = (-6.0, 6.0);
 const LIMIT: Option<f64> = Some(1.0);
 /// Of ordered sums and extremes, where one addition or comparison waits for the one before.
 const ORDERED_LIMIT: Option<f64> = Some(1.1);
-const SPLIT_LIMIT: Option<f64> = Some(1.5);
 /// Ours by the branch-free loop, for the kernels below.
 pub const GOAL: f64 = 1.6;
 const GOALS: [&str; 10] = ["exp", "sigmoid", "silu", "tanh", "erf", "gelu", "sin", "cos", "softmax", "quantize"];
 
-fn kernel(name: &'static str, range: (f32, f32), limit: Option<f64>, ours: Call, rust: Call) -> Kernel {
+pub fn kernel(name: &'static str, range: (f32, f32), limit: Option<f64>, ours: Call, rust: Call) -> Kernel {
     Kernel { name, ours, rust, range, bias: 0.5, only: None, limit, goal: GOALS.contains(&name) }
 }
 
@@ -194,40 +194,6 @@ fn others() -> Vec<Kernel> {
             |j| _ = unsafe { mst_quantize(j.inv_scale, j.zero_point, j.src, j.n, j.dst, j.n) },
             |j| text::quantize_to(j.inv_scale, j.zero_point, j.src(), j.out(j.n)),
         ),
-    ]
-}
-
-fn split(name: &'static str, n: usize, limit: Option<f64>) -> Kernel {
-    let ours: Call = |j| _ = unsafe { mst_split(j.src, j.n, j.dst.cast(), j.n) };
-    let rust: Call = |j| _ = reference::split::split(j.src(), j.out(j.n));
-    Kernel { only: Some(n), ..kernel(name, (-5.0, 5.0), limit, ours, rust) }
-}
-
-fn table(name: &'static str, ours: Call, rust: Call) -> Kernel {
-    Kernel { only: Some(BANDS * ROWS), ..kernel(name, USUAL, None, ours, rust) }
-}
-
-fn our_reading(j: &Job) {
-    let (gains, [mut bands, mut rows]) = (j.gains().len(), [0; 2]);
-    _ = unsafe { mst_table_read(j.bytes, table_bytes(), j.dst.cast(), gains, &mut bands, &mut rows) };
-}
-
-/// Against the reference, which alone has them.
-fn calls() -> Vec<Kernel> {
-    const SIZES: (u32, u32) = (BANDS as u32, ROWS as u32);
-    vec![
-        split("split of 3", 3, None),
-        split("split of 16", 16, SPLIT_LIMIT),
-        table(
-            "table write",
-            |j| _ = unsafe { mst_table_write(SIZES.0, SIZES.1, j.gains, j.gains().len(), j.dst, table_bytes()) },
-            |j| _ = reference::table::write(SIZES.0, SIZES.1, j.gains(), j.out(table_bytes())),
-        ),
-        table("table read", our_reading, |j| {
-            if let Ok((_, gains)) = reference::table::read(j.bytes(), j.gains().len()) {
-                j.out(gains.len()).copy_from_slice(&gains);
-            }
-        }),
     ]
 }
 

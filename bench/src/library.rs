@@ -26,3 +26,4 @@ like!(mst_meter_feed: (count: *mut u32, overs: *mut u32, sum_squares: *mut f32, 
     src: *const f32, n: usize));
 like!(mst_table_write: (bands: u32, rows: u32, gains: *const u16, n: usize, bytes: *mut u8, m: usize));
 like!(mst_table_read: (bytes: *const u8, n: usize, gains: *mut u16, m: usize, bands: *mut u32, rows: *mut u32));
+like!(mst_table_to_form_1 mst_table_to_form_2: (bytes: *const u8, n: usize, result: *mut u8, m: usize));

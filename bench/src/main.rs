@@ -1,6 +1,7 @@
 //! Times every kernel of the library against the Rust text, branch-free C, glibc and SLEEF, in one run.
 //! Its argument is the machine as `uname -m` gives it.
 
+mod calls;
 mod contender;
 mod job;
 mod kernels;

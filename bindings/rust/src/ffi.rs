@@ -27,6 +27,7 @@ alike! {
     (count: *mut u32, overs: *mut u32, sum_squares: *mut f32, least: *mut f32, largest: *mut f32, src: *const f32, n: usize): mst_meter_feed;
     (bands: u32, rows: u32, gains: *const u16, n: usize, bytes: *mut u8, m: usize): mst_table_write;
     (bytes: *const u8, n: usize, gains: *mut u16, m: usize, bands: *mut u32, rows: *mut u32): mst_table_read;
+    (bytes: *const u8, n: usize, result: *mut u8, m: usize): mst_table_to_form_1 mst_table_to_form_2;
     (number: u32, bytes: *const u8, n: usize, form: *mut u32, bands: *mut u32, rows: *mut u32, held: *mut u32):
         mst_table_read_block;
 }

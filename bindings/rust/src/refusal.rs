@@ -28,7 +28,7 @@ macro_rules! refusals {
         )*}
 
         impl Refusal {
-            /// The number in document 01's list, 1 to 12.
+            /// The number in document 01's list, 1 to 12, or 15.
             pub fn number(&self) -> u8 {
                 match self {
                     $(Self::$name { .. } => $number,)*
@@ -67,11 +67,12 @@ refusals! {
     5 Masked "all masked, in split or in softmax of one or more elements with flush off";
     6 Result(element: usize) "normalize would yield NaN";
     7 Count "bands outside 1..64, or rows outside 1..1,024";
-    8 RowTotal(row: usize) "row not adding up to 32768";
+    8 RowTotal(row: usize) "row not adding up to 32768, or in form 2 stored gains that pass it";
     9 StoredLength "stored length wrong";
     10 Check(block: usize) "check wrong";
-    11 Header(block: usize) "form, block number, bands or rows wrong, or bands or rows unlike block 0";
+    11 Header(block: usize) "form, block number, bands or rows wrong, or form, bands or rows unlike block 0";
     12 Unused(block: usize) "unused byte not zero";
+    15 OneBand "a one-band table has no form 2";
 }
 
 impl Refusal {

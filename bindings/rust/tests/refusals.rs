@@ -1,4 +1,4 @@
-//! What the kernels, the split and the meter refuse: number, place, and that nothing lent has changed.
+//! What the kernels, the split, the meter and the moves of a table refuse: number, place, and that nothing lent has changed.
 
 use masoritun::*;
 
@@ -159,6 +159,36 @@ fn splits() {
         refused(4, n - 1, &vec![7u16; n], |gains| split(&with(n, n - 1, INF), gains));
         refused(5, 0, &vec![7u16; n], |gains| split(&vec![MASKED; n], gains));
     }
+}
+
+/// Moving: what reading refuses, then 15, then 9.
+#[test]
+fn moves() {
+    let (mut one, mut two) = ([0; 512], [0; 2048]);
+    assert_eq!(table::write(1, 2, &[32768; 2], &mut one), Ok(()));
+    assert_eq!(table::write(3, 250, &[0, 32768, 0].repeat(250), &mut two), Ok(()));
+    let mut damaged = one;
+    damaged[100] = 1;
+    for to_form in [table::to_form_1, table::to_form_2] {
+        refused(9, 0, &[7u8; 512], |result| to_form(&[], result));
+        refused(9, 0, &[7u8; 512], |result| to_form(&one[..511], result));
+        refused(10, 0, &[7u8; 511], |result| to_form(&damaged, result));
+        refused(11, 1, &[7u8; 3], |result| to_form(&[&two[..512], &one, &two[1024..]].concat(), result));
+    }
+    for n in [0, 511, 512, 513, 1024] {
+        refused(15, 0, &vec![7u8; n], |result| table::to_form_2(&one, result));
+    }
+    for n in [0, 511, 513, 1024] {
+        refused(9, 0, &vec![7u8; n], |result| table::to_form_1(&one, result));
+    }
+    // In form 1 it takes four blocks, in form 2 two.
+    for n in [0, 512, 1023, 1025, 1536, 2048] {
+        refused(9, 0, &vec![7u8; n], |result| table::to_form_2(&two, result));
+    }
+    for n in [0, 1024, 1536, 2047, 2049, 2560] {
+        refused(9, 0, &vec![7u8; n], |result| table::to_form_1(&two, result));
+    }
+    assert_eq!(Refusal::OneBand.to_string(), "refused with 15: a one-band table has no form 2");
 }
 
 #[test]

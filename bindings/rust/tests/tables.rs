@@ -1,18 +1,12 @@
 //! Stored tables: round trips, and what reading and writing refuse.
 
 mod random;
+mod stored;
 
 use masoritun::table::{BLOCK, Block, read, read_block, stored_len, write};
 use masoritun::{MAX_BANDS, MAX_ROWS, Refusal, split};
 use random::Random;
-
-/// Document 01's two checks of a block, put right.
-fn seal(block: &mut [u8]) {
-    let plain: u32 = block[..508].iter().map(|&b| b as u32).sum();
-    let weighed: u32 = (1..).zip(&block[..508]).map(|(i, &b)| i * b as u32).sum();
-    block[508..510].copy_from_slice(&(plain as u16).to_le_bytes());
-    block[510..512].copy_from_slice(&(weighed as u16).to_le_bytes());
-}
+use stored::{seal, stored};
 
 /// Rows of gains, and the bytes that they are stored as.
 fn table(random: &mut Random, bands: usize, rows: usize) -> (Vec<u16>, Vec<u8>) {
@@ -40,6 +34,7 @@ fn what_was_written_reads_back() {
         let in_a_block = 250 / bands;
         for rows in [1, in_a_block - 1, in_a_block, in_a_block + 1, 3 * in_a_block, MAX_ROWS] {
             let (gains, bytes) = table(&mut random, bands, rows);
+            assert_eq!(bytes, stored(1, bands, &gains));
             let mut back = vec![0; gains.len()];
             assert_eq!(read(&bytes, &mut back), Ok((bands as u32, rows as u32)));
             assert_eq!(back, gains);
@@ -98,7 +93,9 @@ fn a_wrong_byte_is_found() {
 #[test]
 fn damage_under_right_checks() {
     let cases = [
-        (0, 0, 2, Refusal::Header(0)),      // form 2
+        (0, 0, 3, Refusal::Header(0)),      // form 3
+        (0, 0, 2, Refusal::StoredLength),   // form 2, whose 130 rows take one block
+        (1, 0, 2, Refusal::Header(1)),      // form unlike block 0
         (0, 2, 1, Refusal::Header(0)),      // block 0 says 1
         (0, 4, 65, Refusal::Header(0)),     // 65 bands
         (0, 4, 64, Refusal::StoredLength),  // 64 bands, whose 130 rows take 44 blocks

@@ -2,47 +2,56 @@
 -- and number and place together tell which answer it is. Assumes nothing.
 use Prim.Native.Nat.{ℕ, _-_, _≤_}
 use mathlib.Core.Path.{_≡_, refl, sym, ap, _∙_}
+use mathlib.Core.Bool.{cond}
 use mathlib.Core.List.{List, [], _∷_, map}
 use native.Mathlib.Omega.{arith}
-use lib.Dec.{lit≤}
+use lib.Dec.{lit≤, ltb}
 use lib.ListN.{getD}
 use Rattle.answer.specs.Answer.{classOf, whereOf, numberOf, toldOf}
 use Rattle.answer.specs.declared.Refusal.{Refusal}
-use Rattle.answer.specs.declared.Refusal.the-variants.{Length, TooMany, NotFinite, Domain, Masked, Result, Count, RowTotal, StoredLength, Check, Header, Unused}
+use Rattle.answer.specs.declared.Refusal.the-variants.{Length, TooMany, NotFinite, Domain, Masked, Result, Count, RowTotal, StoredLength, Check, Header, Unused, OneBand}
 use Rattle.answer.specs.declared.Answer.{Answer}
 use Rattle.answer.specs.declared.Answer.the-variants.{Done, Refused}
 
--- the list from number 1 on, with p as the place where one is told
-abbrev listFrom1 : ℕ → List Refusal
-listFrom1 p =
-    Length ∷ TooMany ∷ NotFinite ∷ Domain p ∷ Masked ∷ Result p ∷ Count ∷ RowTotal p ∷ StoredLength ∷ Check p ∷ Header p ∷ Unused p ∷ []
+-- the list, with p as the place where one is told, and its numbers
+abbrev refusals : ℕ → List Refusal
+refusals p =
+    Length ∷ TooMany ∷ NotFinite ∷ Domain p ∷ Masked ∷ Result p ∷ Count ∷ RowTotal p ∷ StoredLength ∷ Check p ∷ Header p ∷ Unused p ∷ OneBand ∷ []
+
+abbrev pub numbers : List ℕ
+numbers = 1 ∷ 2 ∷ 3 ∷ 4 ∷ 5 ∷ 6 ∷ 7 ∷ 8 ∷ 9 ∷ 10 ∷ 11 ∷ 12 ∷ 15 ∷ []
+
+-- where a number stands in it
+abbrev pub slot : ℕ → ℕ
+slot n = cond (ltb n 13) (n - 1) 12
 
 -- what a number and a place stand for
 abbrev refusalOf : ℕ → ℕ → Refusal
-refusalOf n p = getD (listFrom1 p) (n - 1) Length
+refusalOf n p = getD (refusals p) (slot n) Length
 
 -- `Done` is 0 with place 0
 pub done-told : toldOf Done ≡ (0, 0)
 done-told = refl
 
 -- each number of the list is a refusal's
-pub each-given : (p : ℕ) → map classOf (listFrom1 p) ≡ 1 ∷ 2 ∷ 3 ∷ 4 ∷ 5 ∷ 6 ∷ 7 ∷ 8 ∷ 9 ∷ 10 ∷ 11 ∷ 12 ∷ []
+pub each-given : (p : ℕ) → map classOf (refusals p) ≡ numbers
 each-given p = refl
 
 -- every refusal's number is in the list
-pub listed : (r : Refusal) → (1 ≤ classOf r) × (classOf r ≤ 12)
-listed Length = (lit≤ tt, lit≤ tt)
-listed TooMany = (lit≤ tt, lit≤ tt)
-listed NotFinite = (lit≤ tt, lit≤ tt)
-listed (Domain i) = (lit≤ tt, lit≤ tt)
-listed Masked = (lit≤ tt, lit≤ tt)
-listed (Result i) = (lit≤ tt, lit≤ tt)
-listed Count = (lit≤ tt, lit≤ tt)
-listed (RowTotal r) = (lit≤ tt, lit≤ tt)
-listed StoredLength = (lit≤ tt, lit≤ tt)
-listed (Check b) = (lit≤ tt, lit≤ tt)
-listed (Header b) = (lit≤ tt, lit≤ tt)
-listed (Unused b) = (lit≤ tt, lit≤ tt)
+pub listed : (r : Refusal) → (1 ≤ classOf r) × (getD numbers (slot (classOf r)) 0 ≡ classOf r)
+listed Length = (lit≤ tt, refl)
+listed TooMany = (lit≤ tt, refl)
+listed NotFinite = (lit≤ tt, refl)
+listed (Domain i) = (lit≤ tt, refl)
+listed Masked = (lit≤ tt, refl)
+listed (Result i) = (lit≤ tt, refl)
+listed Count = (lit≤ tt, refl)
+listed (RowTotal r) = (lit≤ tt, refl)
+listed StoredLength = (lit≤ tt, refl)
+listed (Check b) = (lit≤ tt, refl)
+listed (Header b) = (lit≤ tt, refl)
+listed (Unused b) = (lit≤ tt, refl)
+listed OneBand = (lit≤ tt, refl)
 
 -- and what it stands for, with its place, is the refusal itself
 pub told-back : (r : Refusal) → refusalOf (classOf r) (whereOf r) ≡ r
@@ -58,6 +67,7 @@ told-back StoredLength = refl
 told-back (Check b) = refl
 told-back (Header b) = refl
 told-back (Unused b) = refl
+told-back OneBand = refl
 
 -- so different variants have different numbers
 pub refusal-one : (r q : Refusal) → classOf r ≡ classOf q → whereOf r ≡ whereOf q → r ≡ q

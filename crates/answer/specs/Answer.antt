@@ -4,7 +4,7 @@ use mathlib.Core.Path.{_≡_}
 use mathlib.Core.Bool.{Bool, true, false, cond}
 use mathlib.Core.List.{List, [], _∷_}
 use Rattle.answer.specs.declared.Refusal.{Refusal}
-use Rattle.answer.specs.declared.Refusal.the-variants.{Length, TooMany, NotFinite, Domain, Masked, Result, Count, RowTotal, StoredLength, Check, Header, Unused}
+use Rattle.answer.specs.declared.Refusal.the-variants.{Length, TooMany, NotFinite, Domain, Masked, Result, Count, RowTotal, StoredLength, Check, Header, Unused, OneBand}
 use Rattle.answer.specs.declared.Answer.{Answer}
 use Rattle.answer.specs.declared.Answer.the-variants.{Done, Refused}
 
@@ -22,6 +22,7 @@ classOf StoredLength = 9
 classOf (Check b) = 10
 classOf (Header b) = 11
 classOf (Unused b) = 12
+classOf OneBand = 15
 
 -- and its place: an element, a row or a block
 abbrev pub whereOf : Refusal → ℕ
@@ -37,6 +38,7 @@ whereOf StoredLength = 0
 whereOf (Check b) = b
 whereOf (Header b) = b
 whereOf (Unused b) = b
+whereOf OneBand = 0
 
 -- the answer's number and place
 abbrev pub numberOf : Answer → ℕ

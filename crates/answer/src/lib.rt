@@ -17,6 +17,7 @@ pub enum Refusal {
     Check(usize),
     Header(usize),
     Unused(usize),
+    OneBand,
 }
 
 pub enum Answer {
@@ -49,6 +50,7 @@ fn class(r: Refusal) -> u8
         Refusal::Check(_) => 10,
         Refusal::Header(_) => 11,
         Refusal::Unused(_) => 12,
+        Refusal::OneBand => 15,
     }
 }
 
@@ -68,6 +70,7 @@ fn at(r: Refusal) -> usize
         Refusal::Check(block) => block,
         Refusal::Header(block) => block,
         Refusal::Unused(block) => block,
+        Refusal::OneBand => 0,
     }
 }
 

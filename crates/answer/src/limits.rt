@@ -16,4 +16,4 @@ pub const TABLE_LIMIT: usize = 512 * ((ROW_LIMIT + (250 / BAND_LIMIT - 1)) / (25
 
 pub const LEVEL_LIMIT: usize = 4 * GAIN_LIMIT + 1;
 
-pub const BLOCK_ROOM: usize = 12 * 250;
+pub const BLOCK_ROOM: usize = 18 * 250;

@@ -1,13 +1,16 @@
 -- Laws of a block's numbers and bytes, and of a table's. Assumes nothing.
 use Prim.Native.Nat.{ℕ, suc, zero, _+_, _-_, _*_, _/_, _%_, _≤_, _<_}
-use mathlib.Core.Path.{_≡_, refl, ap, _∙_, fun-ext}
+use mathlib.Core.Path.{_≡_, refl, sym, ap, _∙_, fun-ext}
 use mathlib.Core.List.{List}
-use native.Mathlib.Nat.{div-add-mod'}
+use native.Mathlib.Nat.{div-add-mod', mul-assoc, add-mul, mul-add-div-right, mul-add-mod-self-right}
+use native.Mathlib.Decide.{decLt}
 use native.Mathlib.Omega.{arith}
 use lib.ListN.{getD}
 use borrow.Author.Tests.{lt-ltb, le-ltb}
 use Rattle.lists.proofs.Sum.{sum-same}
 use Rattle.block.specs.Block.{half, bytesOf, checkA, checkB, sealed, blockByte, perBlock, heldRows, blockWord, stored, tableByte}
+use Rattle.block.specs.Asked.{ownWord, runByte}
+use Rattle.block.proofs.Shape.{stored-in}
 
 -- the numbers of a block past its header
 pub word-in : (form W B N : ℕ) (f : ℕ → ℕ) (k j : ℕ) → 4 ≤ j → j - 4 < heldRows W N k * W
@@ -67,29 +70,65 @@ pub checkB-is : (f w : ℕ → ℕ) → ((i : ℕ) → i < 508 → f i ≡ block
 unfolding sealed
 checkB-is f w h = checkB-same f (bytesOf w) (λ i l. h i l ∙ block-body w i l)
 
--- the numbers of block k of a table
-abbrev pub numbers : ℕ → ℕ → ℕ → ℕ → List ℕ → ℕ → ℕ → ℕ
-numbers form W B N g k = blockWord form W B N (stored W B g) k
-
-module _ (form W B N : ℕ) (g : List ℕ) (k : ℕ) where
-  -- byte i of block k
-  pub table-at : (i : ℕ) → i < 512 → tableByte form W B N g (512 * k + i) ≡ blockByte (numbers form W B N g k) i
-  unfolding tableByte
-  table-at i h =
-      let d : (512 * k + i) / 512 ≡ k = omega arith in
-      let m : (512 * k + i) % 512 ≡ i = omega arith in
-      rw (d, m)
+-- a block's bytes at its place k in a table
+module _ (w : ℕ → ℕ) (k : ℕ) where
+  pub run-at : (i : ℕ) → i < 512 → runByte w (512 * k + i) ≡ blockByte w i
+  unfolding runByte
+  run-at i h = let m : (512 * k + i) % 512 ≡ i = omega arith in rw m
 
   -- the two bytes of its number j, at p
-  pub table-low : (j p : ℕ) → j < 256 → p ≡ 512 * k + 2 * j → tableByte form W B N g p ≡ sealed (numbers form W B N g k) j % 256
+  pub run-low : (j p : ℕ) → j < 256 → p ≡ 512 * k + 2 * j → runByte w p ≡ sealed w j % 256
   unfolding blockByte
-  table-low j p h e = ap (tableByte form W B N g) e ∙ table-at (2 * j) (omega arith) ∙ bytes-low (sealed (numbers form W B N g k)) j
+  run-low j p h e = ap (runByte w) e ∙ run-at (2 * j) (omega arith) ∙ bytes-low (sealed w) j
 
-  pub table-high : (j p : ℕ) → j < 256 → p ≡ 512 * k + 2 * j → tableByte form W B N g (p + 1) ≡ sealed (numbers form W B N g k) j / 256
+  pub run-high : (j p : ℕ) → j < 256 → p ≡ 512 * k + 2 * j → runByte w (p + 1) ≡ sealed w j / 256
   unfolding blockByte
-  table-high j p h e =
+  run-high j p h e =
       let z : p + 1 ≡ 512 * k + (2 * j + 1) = omega arith in
-      ap (tableByte form W B N g) z ∙ table-at (2 * j + 1) (omega arith) ∙ bytes-high (sealed (numbers form W B N g k)) j
+      ap (runByte w) z ∙ run-at (2 * j + 1) (omega arith) ∙ bytes-high (sealed w) j
+
+-- byte i of block k of a table
+pub table-at : (form W B N : ℕ) (g : List ℕ) (k i : ℕ) → i < 512
+    → tableByte form W B N g (512 * k + i) ≡ blockByte (blockWord form W B N (stored W B g) k) i
+unfolding tableByte
+table-at form W B N g k i h =
+    let d : (512 * k + i) / 512 ≡ k = omega arith in
+    let m : (512 * k + i) % 512 ≡ i = omega arith in
+    rw (d, m)
+
+-- the header does not look at the gains
+word-head : (form W B N : ℕ) (f g : ℕ → ℕ) (k j : ℕ) → j < 4 → blockWord form W B N f k j ≡ blockWord form W B N g k j
+unfolding blockWord
+word-head form W B N f g k j h = rw (lt-ltb j 4 h) refl
+
+-- so blocks that hold the same gains have the same numbers
+word-same : (form W B N : ℕ) (f g : ℕ → ℕ) (k : ℕ) → ((i : ℕ) → i < heldRows W N k * W → f (k * (perBlock W * W) + i) ≡ g (k * (perBlock W * W) + i))
+    → blockWord form W B N f k ≡ blockWord form W B N g k
+word-same form W B N f g k same = fun-ext (λ j. elim (decLt j 4) [
+  | yes h ↦ word-head form W B N f g k j h
+  | no h ↦ elim (decLt (j - 4) (heldRows W N k * W)) [
+    | yes m ↦ word-in form W B N f k j (omega arith) m ∙ same (j - 4) m ∙ sym (word-in form W B N g k j (omega arith) m)
+    | no m ↦ word-out form W B N f k j (omega arith) (omega arith) ∙ sym (word-out form W B N g k j (omega arith) (omega arith))
+  ]
+])
+
+-- block k of a table, from the gains of its own rows
+pub own-run : (form W B N k : ℕ) (g own : List ℕ) → 1 ≤ W → W ≤ B
+    → ((x : ℕ) → x < heldRows W N k * B → getD own x 0 ≡ getD g (k * perBlock W * B + x) 0)
+    → (i : ℕ) → 512 * k ≤ i → i < 512 * k + 512 → runByte (ownWord form W B N own k) i ≡ tableByte form W B N g i
+unfolding runByte tableByte stored
+own-run form W B N k g own h l same i a b =
+    let z : i / 512 ≡ k = omega arith in
+    rw z
+    (ap (λ (w : ℕ → ℕ). blockByte w (i % 512))
+    (word-same form W B N (λ x. stored W B own (x - k * (perBlock W * W))) (stored W B g) k
+    (λ j m.
+    let c : k * (perBlock W * W) + j - k * (perBlock W * W) ≡ j = omega arith in
+    let e : k * (perBlock W * W) + j ≡ k * perBlock W * W + j = ap (λ (x : ℕ). x + j) (sym (mul-assoc k (perBlock W) W)) in
+    let d : (k * (perBlock W * W) + j) / W ≡ k * perBlock W + j / W = ap (λ (x : ℕ). x / W) e ∙ mul-add-div-right h (k * perBlock W) j in
+    let q : (k * (perBlock W * W) + j) % W ≡ j % W = ap (λ (x : ℕ). x % W) e ∙ mul-add-mod-self-right (k * perBlock W) W j in
+    ap (stored W B own) c ∙ same (j / W * B + j % W) (stored-in W B N k j h l m)
+    ∙ ap (λ (x : ℕ). getD g x 0) (rw (d, q) (omega (arith, add-mul (k * perBlock W) (j / W) B))))))
 
 -- where all of a row is stored, the stored gains are the gains
 pub stored-all : (B : ℕ) (g : List ℕ) → stored B B g ≡ (λ (i : ℕ). getD g i 0)

@@ -1,18 +1,21 @@
 -- Laws of a row's gains from those that are stored of it. Assumes nothing.
 use Prim.Native.Nat.{ℕ, _+_, _-_, _*_, _/_, _%_, _≤_, _<_}
-use mathlib.Core.Path.{_≡_, refl, sym, ap, _∙_}
+use mathlib.Core.Path.{_≡_, refl, sym, ap, ap₂, _∙_}
 use mathlib.Core.Bool.{true}
 use native.Mathlib.Nat.{mul-add-div-right, mul-add-mod-self-right, div-eq-of-lt, mod-eq-of-lt, add-zero, div-add-mod', mod-lt}
 use native.Mathlib.Omega.{arith}
 use native.Mathlib.Decide.{decLt}
 use mathlib.Core.List.{List}
 use lib.ListN.{getD}
-use borrow.Author.Tests.{lt-ltb, le-ltb, eqb-true}
-use Rattle.lists.specs.Lists.{sumTo}
+use lib.Dec.{leb, eqb}
+use borrow.Author.Tests.{lt-ltb, le-ltb, lt-leb, le-leb, eq-eqb, ne-eqb, eqb-true}
+use Rattle.lists.specs.Lists.{sumTo, firstNot}
 use Rattle.lists.proofs.First.{first-same}
-use Rattle.lists.proofs.Sum.{sum-same, sum-more}
-use Rattle.block.specs.Block.{rowGain, given, stored}
+use Rattle.lists.proofs.Sum.{sum-same, sum-more, sum-join, sum-const}
+use Rattle.block.specs.Block.{perBlock, rowGain, given, stored}
 use Rattle.block.specs.Write.{rowOk, badRow}
+use Rattle.block.specs.Read.{bytesFrom, gainIn, gainAt}
+use Rattle.block.specs.Asked.{withinWhole}
 use Rattle.block.proofs.Totals.{row-same}
 
 -- place b of row r, n to a row
@@ -34,6 +37,39 @@ module _ (parts W B : ℕ) (f : ℕ → ℕ) where
   pub gain-left : (r b : ℕ) → W ≤ b → rowGain parts W f r b ≡ parts - sumTo (λ j. f (r * W + j)) W
   unfolding rowGain
   gain-left r b l = rw (le-ltb b W l)
+
+  -- what a row adds up to
+  row-total : (r sum : ℕ) → W ≤ B → sum ≡ sumTo (λ j. f (r * W + j)) W → sumTo (rowGain parts W f r) B ≡ sum + (B - W) * (parts - sum)
+  row-total r sum l e =
+      let z : W + (B - W) ≡ B = omega arith in
+      ap (sumTo (rowGain parts W f r)) (sym z) ∙ sum-join (rowGain parts W f r) W (B - W)
+      ∙ ap₂ _+_ (sum-same (rowGain parts W f r) (λ j. f (r * W + j)) W (λ j h. gain-stored r j h) ∙ sym e)
+      (sum-same (λ j. rowGain parts W f r (W + j)) (λ j. parts - sum) (B - W)
+      (λ j h. gain-left r (W + j) (omega arith) ∙ ap (λ (x : ℕ). parts - x) (sym e))
+      ∙ sum-const (parts - sum) (B - W))
+
+  -- so the sum of what is stored says whether it adds up
+  pub row-adds : (r sum d : ℕ) → W ≡ B - d → d ≤ B → sum ≡ sumTo (λ j. f (r * W + j)) W
+      → rowOk parts (given parts W B f) B r ≡ eqb (sum + d * (parts - sum)) parts
+  unfolding rowOk
+  row-adds r sum d w h e =
+      let z : B - W ≡ d = omega arith in
+      ap (λ (x : ℕ). eqb x parts)
+      (sum-same (λ j. given parts W B f (r * B + j)) (rowGain parts W f r) B (given-at r) ∙ row-total r sum (omega arith) e
+      ∙ ap (λ (x : ℕ). sum + x * (parts - sum)) z)
+
+-- where one gain is left out, it adds up if what is stored does not pass the parts
+adds-less : (parts sum : ℕ) → eqb (sum + 1 * (parts - sum)) parts ≡ leb sum parts
+adds-less parts sum = elim (decLt parts sum) [
+  | yes h ↦ ne-eqb (sum + 1 * (parts - sum)) parts (λ z. omega arith) ∙ sym (lt-leb sum parts h)
+  | no h ↦ eq-eqb (sum + 1 * (parts - sum)) parts (omega arith) ∙ sym (le-leb sum parts (omega arith))
+]
+
+pub bad-less : (parts W B d n : ℕ) (f : ℕ → ℕ) → W ≡ B - d → d ≡ 1 → d ≤ B → firstNot (withinWhole parts f W) n ≡ badRow parts (given parts W B f) B n
+unfolding badRow
+bad-less parts W B d n f w e h =
+    first-same (withinWhole parts f W) (rowOk parts (given parts W B f) B) n
+    (λ r l. sym (row-adds parts W B f r _ d w h refl ∙ rw e (adds-less parts (sumTo (λ j. f (r * W + j)) W))))
 
 -- rows of which the same is stored
 pub gain-same : (parts W : ℕ) (f g : ℕ → ℕ) (r q : ℕ) → ((j : ℕ) → j < W → f (r * W + j) ≡ g (q * W + j))
@@ -77,11 +113,21 @@ stored-given parts W B f i h l =
     given-at parts W B f (i / W) (i % W) (omega arith) ∙ gain-stored parts W B f (i / W) (i % W) m ∙ ap f (div-add-mod' i W)
 
 -- where all of a row is stored, the gains are the stored ones
-pub given-whole : (parts B : ℕ) (f : ℕ → ℕ) (i : ℕ) → 1 ≤ B → given parts B B f i ≡ f i
+given-whole : (parts B : ℕ) (f : ℕ → ℕ) (i : ℕ) → 1 ≤ B → given parts B B f i ≡ f i
 given-whole parts B f i h = ap (given parts B B f) (sym (div-add-mod' i B)) ∙ stored-given parts B B f i h (omega arith)
 
-pub bad-whole : (parts B n : ℕ) (f : ℕ → ℕ) → 1 ≤ B → badRow parts f B n ≡ badRow parts (given parts B B f) B n
+pub bad-whole : (parts W B n : ℕ) (f : ℕ → ℕ) → B ≡ W → 1 ≤ B → badRow parts f B n ≡ badRow parts (given parts W B f) B n
 unfolding badRow
-bad-whole parts B n f h =
-    first-same (rowOk parts f B) (rowOk parts (given parts B B f) B) n
-    (λ r l. row-same parts f (given parts B B f) B r r (λ j m. given-whole parts B f (r * B + j) h))
+bad-whole parts W B n f e h =
+    rw (← e)
+    (first-same (rowOk parts f B) (rowOk parts (given parts B B f) B) n
+    (λ r l. row-same parts f (given parts B B f) B r r (λ j m. given-whole parts B f (r * B + j) h)))
+
+-- stored gain i of block k, in the list of all stored ones
+pub gain-in : (s : List ℕ) (W k i : ℕ) → 1 ≤ perBlock W * W → i < perBlock W * W
+    → gainAt W s (k * (perBlock W * W) + i) ≡ gainIn (bytesFrom s (512 * k)) i
+unfolding gainAt
+gain-in s W k i h l =
+    let d : (k * (perBlock W * W) + i) / (perBlock W * W) ≡ k = mul-add-div-right h k i ∙ ap (λ (x : ℕ). k + x) (div-eq-of-lt l) ∙ add-zero k in
+    let m : (k * (perBlock W * W) + i) % (perBlock W * W) ≡ i = mul-add-mod-self-right k (perBlock W * W) i ∙ mod-eq-of-lt l in
+    rw (d, m)

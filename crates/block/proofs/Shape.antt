@@ -1,14 +1,12 @@
 -- Laws of a table's shape, W stored gains to a row: rows of a full block, blocks, rows of block k. Assumes nothing.
 use Prim.Native.Nat.{ℕ, _+_, _-_, _*_, _/_, _%_, _≤_, _<_, min}
 use mathlib.Core.Path.{_≡_, refl, sym, ap, _∙_}
-use mathlib.Core.List.{List}
 use native.Mathlib.Decide.{decLt}
-use native.Mathlib.Nat.{le-div-iff-mul-le, div-lt-iff-lt-mul, div-mul-le-self, div-le-self, mul-le-mul, mul-le-mul-left, mul-le-mul-right, add-mul, mul-assoc, mul-comm, suc-mul, lt-div-mul-add, mod-lt, div-add-mod'}
+use native.Mathlib.Nat.{le-div-iff-mul-le, div-lt-iff-lt-mul, div-mul-le-self, div-le-self, mul-le-mul, mul-le-mul-left, mul-le-mul-right, add-mul, mul-add, mul-assoc, mul-comm, suc-mul, lt-div-mul-add, mod-lt, div-add-mod'}
 use native.Mathlib.Omega.{arith}
-use lib.ListN.{length}
 use Rattle.answer.specs.Limits.{rowLimit, tableMost}
 use Rattle.block.specs.Block.{perBlock, blocks, heldRows}
-use Rattle.block.specs.Asked.{Storable}
+use Rattle.block.specs.Asked.{Stores}
 
 -- a row fits a block
 pub per-pos : (W : ℕ) → 1 ≤ W → W ≤ 250 → 1 ≤ perBlock W
@@ -101,6 +99,12 @@ gain-block W N i h l k =
     let m : N * W ≤ blocks W N * perBlock W * W = mul-le-mul-right W (rows-fit W N (per-pos W h l)) in
     div-lt-iff-lt-mul (wide-pos W h l) .1 (omega (arith, mul-assoc (blocks W N) (perBlock W) W))
 
+-- and so is row R
+pub row-block : (W N R : ℕ) → 1 ≤ W → W ≤ 250 → R < N → R / perBlock W < blocks W N
+row-block W N R h l m =
+    let p = per-pos W h l in
+    lt-blocks W N (R / perBlock W) p (omega (arith, div-add-mod' R (perBlock W), mul-comm (perBlock W) (R / perBlock W)))
+
 -- gain i of a table, the r-th of block q, is one of those that the block holds
 among : (P W N q r i : ℕ) → q * (P * W) + r ≡ i → r < P * W → i < N * W → P * q < N → r < min P (N - P * q) * W
 among P W N q r i e h l m = elim (decLt (N - P * q) P) [
@@ -117,21 +121,24 @@ held-has W N i h l k =
     among (perBlock W) W N (i / (perBlock W * W)) (i % (perBlock W * W)) i (div-add-mod' i (perBlock W * W)) (mod-lt i (wide-pos W h l)) k
     (blocks-lt W N (i / (perBlock W * W)) (per-pos W h l) (gain-block W N i h l k))
 
--- the stored gains of block k, `count` from `start` on, are among the table's, and each is one of the gains
-module _ {W B N : ℕ} {g : List ℕ} (s : Storable W B N g) (k start count i : ℕ) (kb : k < blocks W N)
-    (from : start ≡ k * (perBlock W * W)) (many : count ≡ heldRows W N k * W) (l : i < count) where
-  stored-at : start + i < N * W
-  stored-at = omega (arith, held-fits W N k (per-pos W (s .fits .some) (s .fits .most)) kb)
+-- a stored gain of block k is one of its rows' gains
+pub stored-in : (W B N k i : ℕ) → 1 ≤ W → W ≤ B → i < heldRows W N k * W → i / W * B + i % W < heldRows W N k * B
+stored-in W B N k i h l m =
+    let q : i / W < heldRows W N k = div-lt-iff-lt-mul h .1 m in
+    omega (arith, mul-le-mul-right B q, suc-mul (i / W) B, mod-lt i h)
 
-  pub stored-small : start + i < 65535 * 250
-  stored-small = omega (arith, stored-at, mul-le-mul {n₂ = 65535} {m₂ = 250} (s .fits .rows) (s .fits .most))
+-- where one gain of a row is left out at most, a block's rows have 500 gains at most
+pub part-room : (W B N k : ℕ) → B ≤ W + 1 → heldRows W N k * B ≤ 500
+part-room W B N k h = omega (arith, mul-le-mul-left (heldRows W N k) h, mul-add (heldRows W N k) W 1, held-small W N k, held-le W N k)
 
-  pub stored-in : (start + i) / W * B + (start + i) % W < length g
-  stored-in =
-      let q : (start + i) / W < N = div-lt-iff-lt-mul (s .fits .some) .1 stored-at in
-      omega (arith, mul-le-mul-right B q, suc-mul ((start + i) / W) B, mod-lt (start + i) (s .fits .some), s .long, s .thin)
+-- the gains of block k's rows, B to a row, are the table's
+module _ (W B N k : ℕ) (s : Stores W B N) (kb : k < blocks W N) where
+  pub part-in : k * perBlock W * B + heldRows W N k * B ≤ N * B
+  part-in =
+      let f = s .fits in
+      let m : (k * perBlock W + heldRows W N k) * B ≤ N * B =
+      mul-le-mul-right B (omega (arith, held-last W N k (per-pos W (f .some) (f .most)) kb, mul-comm k (perBlock W))) in
+      omega (arith, add-mul (k * perBlock W) (heldRows W N k) B)
 
--- where block k's gains begin
-pub start-small : {W B N : ℕ} {g : List ℕ} (k : ℕ) → Storable W B N g → k < blocks W N → k * (perBlock W * W) ≤ 65535 * 250
-start-small {W} {B} {N} k s kb =
-    omega (arith, held-fits W N k (per-pos W (s .fits .some) (s .fits .most)) kb, mul-le-mul {n₂ = 65535} {m₂ = 250} (s .fits .rows) (s .fits .most))
+  pub part-small : k * perBlock W * B + heldRows W N k * B ≤ 65535 * 250
+  part-small = omega (arith, part-in, mul-le-mul {n₂ = 65535} {m₂ = 250} (s .fits .rows) (s .bands))

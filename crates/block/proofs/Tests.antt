@@ -10,7 +10,7 @@ use Rattle.block.specs.Form.{Form, Sound}
 use Rattle.block.specs.Block.{blocks}
 use Rattle.block.specs.Write.{shapeOkBy}
 use Rattle.block.specs.Read.{wordAt, bandsOf, rowsOf, headOkBy, headFitsBy}
-use Rattle.block.specs.Asked.{Fits}
+use Rattle.block.specs.Asked.{Fits, Stores}
 
 -- bands and rows within their limits
 pub record Within (F : Form) (B N : ℕ) : Type 0 where
@@ -30,13 +30,17 @@ pub shape-ok : {F : Form} {B N : ℕ} → Within F B N → shapeOkBy F B N ≡ t
 shape-ok z = rw (le-leb _ _ (z .some), le-leb _ _ (z .most), le-leb _ _ (z .rows), le-leb _ _ (z .last))
 
 -- rows of a sound form fit blocks
-pub shape-fits : {F : Form} {B N : ℕ} → Sound F → Within F B N → Fits (F .width B) N
-shape-fits {F} {B} S z =
+pub shape-stores : {F : Form} {B N : ℕ} → Sound F → Within F B N → Stores (F .width B) B N
+shape-stores {F} {B} S z =
+    let most = le-trans (z .most) (S .bands) in
     record {
-      some = S .some B (z .some);
-      most = le-trans (S .thin B) (le-trans (z .most) (S .bands));
-      rows = le-trans (z .last) (S .lines);
+      fits = record { some = S .some B (z .some); most = le-trans (S .thin B) most; rows = le-trans (z .last) (S .lines) };
+      thin = S .thin B;
+      bands = most;
     }
+
+pub shape-fits : {F : Form} {B N : ℕ} → Sound F → Within F B N → Fits (F .width B) N
+shape-fits S z = shape-stores S z .fits
 
 -- what a good header says
 pub record Head (F : Form) (f : ℕ → ℕ) (k : ℕ) : Type 0 where
@@ -55,14 +59,22 @@ head-is f k h =
 
 -- and one that fits a table of B bands and N rows
 pub head-fits : {F : Form} → Sound F → (B N : ℕ) (f : ℕ → ℕ) (k : ℕ) → headFitsBy F B N f k ≡ true
-    → Fits (F .width B) N × (k < blocks (F .width B) N)
+    → Stores (F .width B) B N × (k < blocks (F .width B) N)
 head-fits {F} S B N f k h =
     let a = both _ _ h in
     let b = both _ _ (a .1) in
     let g : Head F f k = head-is f k (a .0) in
     let p : bandsOf f ≡ B = eqb-true _ _ (b .0) in
     let q : rowsOf f ≡ N = eqb-true _ _ (b .1) in
-    (shape-fits S (rw (p, q) at (g .shape)), rw (p, q) at (g .inside))
+    (shape-stores S (rw (p, q) at (g .shape)), rw (p, q) at (g .inside))
+
+-- the number of another form
+pub no-form : (F : Form) (f : ℕ → ℕ) (k : ℕ) → (wordAt f 0 ≡ F .code → ⊥) → headOkBy F f k ≡ false
+no-form F f k other = go (headOkBy F f k) refl
+  where
+    go : (b : Bool) → headOkBy F f k ≡ b → b ≡ false
+    go true e = absurd (other (head-is {F = F} f k e .form))
+    go false e = refl
 
 -- more bands than the form has
 pub no-bands : (F : Form) (f : ℕ → ℕ) (k : ℕ) → F .most < bandsOf f → headOkBy F f k ≡ false

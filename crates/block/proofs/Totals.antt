@@ -4,17 +4,23 @@ use mathlib.Core.Path.{_≡_, refl, sym, ap, _∙_}
 use native.Mathlib.Nat.{mul-le-mul-right, suc-mul}
 use native.Mathlib.Numerals.{add-one}
 use native.Mathlib.Omega.{arith}
-use lib.Dec.{eqb}
+use lib.Dec.{leb, eqb}
 use Rattle.lists.specs.Lists.{sumTo}
 use Rattle.lists.proofs.Sum.{sum-same}
 use Rattle.block.specs.Write.{rowOk}
 use Rattle.block.specs.Read.{wordAt, gainIn}
+use Rattle.block.specs.Asked.{withinWhole}
 
 -- the sum of a row's gains says whether the row adds up
 pub row-sum : (parts : ℕ) (f g : ℕ → ℕ) (B r sum : ℕ) → ((j : ℕ) → j < B → g j ≡ f (r * B + j)) → sum ≡ sumTo g B
     → rowOk parts f B r ≡ eqb sum parts
 unfolding rowOk
 row-sum parts f g B r sum h e = ap (λ (x : ℕ). eqb x parts) (sym (e ∙ sum-same g (λ j. f (r * B + j)) B h))
+
+-- and whether it is within the whole
+pub row-within : (parts : ℕ) (f g : ℕ → ℕ) (W r sum : ℕ) → ((j : ℕ) → j < W → g j ≡ f (r * W + j)) → sum ≡ sumTo g W
+    → leb sum parts ≡ withinWhole parts f W r
+row-within parts f g W r sum h e = ap (λ (x : ℕ). leb x parts) (e ∙ sum-same g (λ j. f (r * W + j)) W h)
 
 -- rows whose gains agree
 pub row-same : (parts : ℕ) (f g : ℕ → ℕ) (B r q : ℕ) → ((j : ℕ) → j < B → g (q * B + j) ≡ f (r * B + j)) → rowOk parts f B r ≡ rowOk parts g B q

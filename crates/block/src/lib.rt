@@ -1,5 +1,4 @@
-// A block of the stored table, of any form: its numbers, its checks, its rows, and how it is stored. For the crates above.
+// A block of the stored table, of any form: its numbers, its checks, and how it is stored. For the crates above.
 pub mod counts;
-pub mod rows;
 pub mod store;
 pub mod word;

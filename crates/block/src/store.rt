@@ -1,16 +1,16 @@
 // Stores a table, for any form and any number of stored gains per row. For the crates above.
 ghost use mathlib.Core.Path.{_≡_};
-ghost use Prim.Native.Nat.{_+_, _*_, _<_, _≤_};
+ghost use Prim.Native.Nat.{_+_, _*_, _≤_};
 ghost use lib.ListN.{length};
 ghost use Rattle.lists.specs.Lists.{Placed};
-ghost use Rattle.block.specs.Block.{perBlock, blocks, heldRows, blockWord, stored, tableByte, tableBytes};
-ghost use Rattle.block.specs.Asked.{Storable};
+ghost use Rattle.block.specs.Block.{blocks, heldRows, tableBytes};
+ghost use Rattle.block.specs.Asked.{Stores, Storable, ownWord, runByte};
 use crate::counts::blocks_of;
 use crate::counts::held_in;
 use crate::word::put_word;
 use crate::word::sums;
 
-// Number j of block k, whose stored gains are count from start on.
+// Number j of block k, which stores count of its rows' gains.
 fn block_word(
     form: u16,
     width: usize,
@@ -18,13 +18,11 @@ fn block_word(
     rows: usize,
     gains: &[u16],
     k: usize,
-    start: usize,
     count: usize,
     j: usize,
 ) -> u16
-    requires { ⌜ Storable width bands rows (now gains) × (k < blocks width rows) ⌝ }
-    requires { ⌜ (start ≡ k * (perBlock width * width)) × (count ≡ heldRows width rows k * width) ⌝ }
-    ensures { λ r. ⌜ r ≡ blockWord form width bands rows (stored width bands (now (gains .entry))) k j ⌝ }
+    requires { ⌜ Storable width bands rows k (now gains) × (count ≡ heldRows width rows k * width) ⌝ }
+    ensures { λ r. ⌜ r ≡ ownWord form width bands rows (now (gains .entry)) k j ⌝ }
 {
     if j == 0 {
         return form;
@@ -39,14 +37,14 @@ fn block_word(
         return rows as u16;
     }
     if j - 4 < count {
-        let i = start + (j - 4);
+        let i = j - 4;
         return gains[i / width * bands + i % width];
     }
     0
 }
 
-// Block k of a table, at its place.
-fn write_block(
+// Block k of a table, at its place, from the gains of its own rows.
+pub fn write_block(
     form: u16,
     width: usize,
     bands: usize,
@@ -55,17 +53,15 @@ fn write_block(
     k: usize,
     bytes: &mut [u8],
 )
-    requires { ⌜ Storable width bands rows (now gains) × (k < blocks width rows) ⌝ }
-    requires { ⌜ 512 * k + 512 ≤ length (now bytes) ⌝ }
-    ensures { λ _. ⌜ Placed 0 (now (bytes .entry)) (now (bytes .exit)) (512 * k) (512 * k + 512) (tableByte form width bands rows (now (gains .entry))) ⌝ }
+    requires { ⌜ Storable width bands rows k (now gains) × (512 * k + 512 ≤ length (now bytes)) ⌝ }
+    ensures { λ _. ⌜ Placed 0 (now (bytes .entry)) (now (bytes .exit)) (512 * k) (512 * k + 512) (runByte (ownWord form width bands rows (now (gains .entry)) k)) ⌝ }
 {
     let at = 512 * k;
-    let start = k * (250 / width * width);
     let count = held_in(width, rows, k) * width;
     let mut j = 0;
     let mut p = at;
     while j < 254 {
-        let w = block_word(form, width, bands, rows, gains, k, start, count, j);
+        let w = block_word(form, width, bands, rows, gains, k, count, j);
         put_word(p, w, bytes);
         j += 1;
         p += 2;
@@ -83,13 +79,16 @@ pub fn write_all(
     gains: &[u16],
     bytes: &mut [u8],
 )
-    requires { ⌜ Storable width bands rows (now gains) × (length (now bytes) ≡ 512 * blocks width rows) ⌝ }
+    requires { ⌜ Stores width bands rows × (length (now gains) ≡ rows * bands) × (length (now bytes) ≡ 512 * blocks width rows) ⌝ }
     ensures { λ _. ⌜ now (bytes .exit) ≡ tableBytes form width bands rows (now (gains .entry)) ⌝ }
 {
     let n = blocks_of(width, rows);
+    let per = 250 / width;
     let mut k = 0;
     while k < n {
-        write_block(form, width, bands, rows, gains, k, bytes);
+        let from = k * per * bands;
+        let to = from + held_in(width, rows, k) * bands;
+        write_block(form, width, bands, rows, &gains[from..to], k, bytes);
         k += 1;
     }
 }

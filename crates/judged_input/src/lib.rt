@@ -1,4 +1,5 @@
 // An input judged block by block as it is read, and held as far as there is room. For the programs above.
+ghost use Prim.Native.Nat.{_≤_};
 ghost use Rattle.lister_facts.specs.Held.{Kept};
 use digits::put_text;
 use judging::Judging;
@@ -13,7 +14,8 @@ fn at_end(from: i32) -> bool {
 
 // Judges all that the descriptor gives, and holds its first blocks, as many as there is room for. What cannot be read to its end counts as empty.
 pub fn judge_input(from: i32, held: &mut [u8]) -> Judging
-    ensures { λ r. ⌜ Kept r (now (held .exit)) ⌝ }
+    ensures held { λ r. ⌜ Kept r (now (held .exit)) ⌝ }
+    ensures few { λ r. ⌜ r .drop ≤ 1 ⌝ }
 {
     let mut block = [0u8; 512];
     let mut j = start();

@@ -64,17 +64,44 @@ fn wide() {
     case(b"late");
 }
 
+fn form_2() {
+    case(b"form_2_two");
+    case(b"form_2_three");
+    case(b"form_2_51");
+    case(b"form_2_64");
+    case(b"form_2_few");
+    case(b"form_2_65");
+    case(b"form_2_one_band");
+    case(b"form_0");
+    case(b"form_3");
+    case(b"form_258");
+    case(b"form_2_check");
+    case(b"form_2_past");
+    case(b"form_2_past_later");
+    case(b"form_2_mixed");
+    case(b"form_1_mixed");
+    case(b"form_2_blocks");
+    case(b"form_1_blocks");
+    case(b"form_2_unused");
+    case(b"form_2_unused_gain");
+}
+
 fn again() {
     changed(b"two_blocks", b"changed_row");
     changed(b"two_blocks", b"changed_first");
     changed(b"two_blocks", b"one");
     changed(b"two_blocks", b"cut");
     changed(b"two_blocks", b"empty");
+    changed(b"form_2_three", b"form_1_three");
+    changed(b"form_1_three", b"form_2_three");
+    changed(b"form_2_three", b"form_2_mixed");
+    changed(b"form_1_three", b"form_1_mixed");
 }
 
 fn main() {
     sixteen();
     wide();
+    form_2();
     unreadable(b"no_such_file");
     unreadable(b".");
     again();

@@ -9,7 +9,7 @@ use Rattle.block.specs.Form.{Form}
 use Rattle.block.specs.Block.{perBlock, heldRows, given}
 use Rattle.block.specs.Read.{gainIn, tableGainsBy}
 use Rattle.table.specs.Table.{tableToldBy}
-use Rattle.table.specs.Release.{release}
+use Rattle.table.specs.Release.{formOf}
 use Rattle.lister_core.specs.Lines.{headLine, refusedLine, rowLine}
 
 -- `bands B rows N`, then a line for each row of B gains
@@ -30,9 +30,6 @@ blockLinesBy F B N f k =
     let W = F .width B in
     joinTo (λ q. rowLine (k * perBlock W + q) (tab (λ j. given (F .parts) W B (gainIn f) (q * B + j)) B)) (heldRows W N k)
 
--- by this release's form
+-- by the form that it says
 abbrev pub listed : List ℕ → List ℕ
-listed s = listedBy release s
-
-abbrev pub blockLines : ℕ → ℕ → (ℕ → ℕ) → ℕ → List ℕ
-blockLines B N f k = blockLinesBy release B N f k
+listed s = listedBy (formOf s) s

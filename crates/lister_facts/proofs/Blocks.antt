@@ -37,7 +37,7 @@ module _ {F : Form} (S : Sound F) (s : List ℕ) (B N : ℕ) (r : Reads F s B N)
   line R = rowLine R (take B (drop (R * B) gains))
 
   pos : 1 ≤ perBlock W
-  pos = let fit = reads-known S r .fits in per-pos W (fit .some) (fit .most)
+  pos = let fit = reads-known S r .stores .fits in per-pos W (fit .some) (fit .most)
 
   -- row q of block k, in the list of all gains and in the block's own bytes
   row-is : (k q : ℕ) → k < blocks W N → q < heldRows W N k

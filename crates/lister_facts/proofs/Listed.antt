@@ -8,14 +8,15 @@ use Rattle.answer.specs.Answer.{classOf, whereOf}
 use Rattle.answer.specs.declared.Answer.{Answer}
 use Rattle.answer.specs.declared.Answer.the-variants.{Done, Refused}
 use Rattle.answer.proofs.Numbers as numbers
-use Rattle.block.specs.Form.{Form, Sound}
-use Rattle.block.specs.Read.{bytesFrom, bandsOf, rowsOf, tableAnswerBy, tableGainsBy}
-use Rattle.table.specs.Table.{tableToldOf, tableWith, shapeOf, tableToldBy}
+use Rattle.block.specs.Read.{bytesFrom, bandsOf, rowsOf}
+use Rattle.table.specs.Table.{tableToldOf, tableWith, shapeOf}
+use Rattle.table.specs.Release.{formOf, tableAnswer, tableTold, tableGains}
+use Rattle.table.proofs.Forms.{sound-in}
 use Rattle.table.proofs.Readable.{judged-reads}
 use Rattle.judging.specs.Judging.{fedAll}
 use Rattle.lister_core.specs.Lines.{refusedLine}
 use Rattle.lister_core.specs.Lister.{tableText, answerText, listedBy}
-use Rattle.lister_facts.specs.ByBlocks.{textByBlocks, shownBy, ListedByBlocks}
+use Rattle.lister_facts.specs.ByBlocks.{textByBlocks, shown, ListedByBlocks}
 use Rattle.lister_facts.proofs.Judged.{judged-by-blocks, shape-is}
 use Rattle.lister_facts.proofs.Blocks.{text-is}
 
@@ -27,16 +28,15 @@ table-text : (B N : ℕ) (gains : List ℕ) → tableText B N gains ≡ answerTe
 unfolding answerText
 table-text B N gains = refl
 
-pub listed-by-blocks : (F : Form) → Sound F → ListedByBlocks F
+pub listed-by-blocks : ListedByBlocks
 unfolding listedBy textByBlocks
-listed-by-blocks F S s = ap (λ a. shownBy F a (fedAll F s) s) (judged-by-blocks F s) ∙ go (tableAnswerBy F s) refl
+listed-by-blocks s = ap (λ a. shown a (fedAll s) s) (judged-by-blocks s) ∙ go (tableAnswer s) refl
   where
-    go : (a : Answer) → a ≡ tableAnswerBy F s
-        → shownBy F a (fedAll F s) s ≡ answerText (tableToldOf (tableWith a (shapeOf (bytesFrom s 0)))) (tableGainsBy F s)
+    go : (a : Answer) → a ≡ tableAnswer s → shown a (fedAll s) s ≡ answerText (tableToldOf (tableWith a (shapeOf (bytesFrom s 0)))) (tableGains s)
     go Done e =
         let B = bandsOf (bytesFrom s 0) in
         let N = rowsOf (bytesFrom s 0) in
-        let h = shape-is F s e in
-        let t : tableToldBy F s ≡ (0, 0, B, N) = sym (ap (λ a. tableToldOf (tableWith a (shapeOf (bytesFrom s 0)))) e) in
-        rw (h .0, h .1, h .2) (text-is S s B N (judged-reads F s B N t) ∙ table-text B N (tableGainsBy F s))
-    go (Refused r) e = refused-text (classOf r) (whereOf r) 0 0 (tableGainsBy F s) (numbers.listed r .0)
+        let h = shape-is s e in
+        let t : tableTold s ≡ (0, 0, B, N) = sym (ap (λ a. tableToldOf (tableWith a (shapeOf (bytesFrom s 0)))) e) in
+        rw (h .0, h .1, h .2, h .3) (text-is (sound-in (bytesFrom s 0)) s B N (judged-reads (formOf s) s B N t) ∙ table-text B N (tableGains s))
+    go (Refused r) e = refused-text (classOf r) (whereOf r) 0 0 (tableGains s) (numbers.listed r .0)

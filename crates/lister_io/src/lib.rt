@@ -2,15 +2,15 @@
 // standard output.
 ghost use mathlib.Core.Path.{_≡_};
 ghost use mathlib.Core.Bool.{true};
-ghost use Prim.Native.Nat.{_*_, _<_, _≤_};
+ghost use Prim.Native.Nat.{_-_, _*_, _<_, _≤_};
 ghost use lib.ListN.{length};
 ghost use Rattle.answer.specs.Answer.{isDone, judged};
 ghost use Rattle.answer.specs.Limits.{tableLimit, blockRoom};
 ghost use Rattle.answer.specs.declared.Answer.the-variants.{Done};
 ghost use Rattle.block.specs.Block.{blocks};
-ghost use Rattle.block.specs.Read.{bytesFrom};
-ghost use Rattle.block.specs.Asked.{Fits};
-ghost use Rattle.table.specs.Release.{blockTests};
+ghost use Rattle.block.specs.Read.{bytesFrom, blockTestsBy};
+ghost use Rattle.block.specs.Asked.{Stores};
+ghost use Rattle.table.specs.Release.{form};
 use answer::Answer;
 use answer::Refusal;
 use answer::is_done;
@@ -59,23 +59,23 @@ fn show_head(bands: usize, rows: usize, k: usize, text: &mut [u8])
     io::write_all(STDOUT_FILENO, &text[..end]);
 }
 
-fn show_block(bands: usize, rows: usize, k: usize, block: &[u8], text: &mut [u8])
-    requires { ⌜ Fits bands rows × (k < blocks bands rows) × (length (now block) ≡ 512) × (blockRoom ≤ length (now text)) ⌝ }
+fn show_block(drop: usize, bands: usize, rows: usize, k: usize, block: &[u8], text: &mut [u8])
+    requires { ⌜ Stores (bands - drop) bands rows × (drop ≤ 1) × (k < blocks (bands - drop) rows) × (length (now block) ≡ 512) × (blockRoom ≤ length (now text)) ⌝ }
 {
     show_head(bands, rows, k, text);
-    let end = put_block(bands, rows, k, block, text);
+    let end = put_block(drop, bands, rows, k, block, text);
     io::write_all(STDOUT_FILENO, &text[..end]);
 }
 
 // Shows the blocks of a table that was judged and is held.
-fn show_held(bands: usize, rows: usize, want: usize, held: &[u8], text: &mut [u8])
-    requires { ⌜ Fits bands rows × (want ≡ blocks bands rows) × (512 * want ≤ length (now held)) × (blockRoom ≤ length (now text)) ⌝ }
+fn show_held(drop: usize, bands: usize, rows: usize, want: usize, held: &[u8], text: &mut [u8])
+    requires { ⌜ Stores (bands - drop) bands rows × (drop ≤ 1) × (want ≡ blocks (bands - drop) rows) × (512 * want ≤ length (now held)) × (blockRoom ≤ length (now text)) ⌝ }
 {
     let mut k = 0;
     let mut at = 0;
     while k < want {
         let end = at + 512;
-        show_block(bands, rows, k, &held[at..end], text);
+        show_block(drop, bands, rows, k, &held[at..end], text);
         k += 1;
         at = end;
     }
@@ -90,18 +90,25 @@ fn list_held(from: i32, held: &mut [u8], text: &mut [u8])
         refuse(a, text);
         return;
     }
-    show_held(j.bands, j.rows, j.want, held, text);
+    show_held(j.drop, j.bands, j.rows, j.want, held, text);
 }
 
 // The next block, judged as block k; 9 where the descriptor has no whole one.
-fn next_block(from: i32, bands: usize, rows: usize, k: usize, block: &mut [u8]) -> Answer
-    requires { ⌜ length (now block) ≡ 512 ⌝ }
-    ensures { λ r. ⌜ (isDone r ≡ true → Done ≡ judged (blockTests bands rows (bytesFrom (now (block .exit)) 0) k)) ⌝ }
+fn next_block(
+    from: i32,
+    drop: usize,
+    bands: usize,
+    rows: usize,
+    k: usize,
+    block: &mut [u8],
+) -> Answer
+    requires { ⌜ (length (now block) ≡ 512) × (drop ≤ 1) ⌝ }
+    ensures { λ r. ⌜ (isDone r ≡ true → Done ≡ judged (blockTestsBy (form drop) bands rows (bytesFrom (now (block .exit)) 0) k)) ⌝ }
 {
     if io::read_full(from, block) != 512 {
         return Answer::Refused(Refusal::StoredLength);
     }
-    table::judge::block(block, 0, k, bands, rows)
+    table::judge::block(block, 0, k, drop, bands, rows)
 }
 
 // Block k did not pass this time: the one line of its refusal where nothing was written yet, else a line on standard error.
@@ -119,17 +126,25 @@ fn stopped(a: Answer, k: usize, text: &mut [u8])
 }
 
 // Shows a table that is read again, up to the first block that does not pass this time.
-fn show_again(from: i32, bands: usize, rows: usize, want: usize, block: &mut [u8], text: &mut [u8])
-    requires { ⌜ (length (now block) ≡ 512) × (blockRoom ≤ length (now text)) ⌝ }
+fn show_again(
+    from: i32,
+    drop: usize,
+    bands: usize,
+    rows: usize,
+    want: usize,
+    block: &mut [u8],
+    text: &mut [u8],
+)
+    requires { ⌜ (length (now block) ≡ 512) × (drop ≤ 1) × (blockRoom ≤ length (now text)) ⌝ }
 {
     let mut k = 0;
     while k < want {
-        let a = next_block(from, bands, rows, k, block);
+        let a = next_block(from, drop, bands, rows, k, block);
         if !is_done(a) {
             stopped(a, k, text);
             return;
         }
-        show_block(bands, rows, k, block, text);
+        show_block(drop, bands, rows, k, block, text);
         k += 1;
     }
 }
@@ -144,7 +159,7 @@ fn list_twice(first: i32, second: i32, none: &mut [u8], block: &mut [u8], text: 
         return;
     }
     libc::lseek(second, 0, SEEK_SET);
-    show_again(second, j.bands, j.rows, j.want, block, text);
+    show_again(second, j.drop, j.bands, j.rows, j.want, block, text);
 }
 
 // Lists the table that the descriptor gives, which is read once: no more of it is held than the largest table has.

@@ -7,7 +7,7 @@ use Rattle.answer.specs.Answer.{placeOf, toldOf}
 use Rattle.answer.specs.declared.Answer.the-variants.{Refused as No}
 use Rattle.answer.specs.declared.Refusal.{Refusal}
 use Rattle.table.specs.Table.{tableToldOf, blockToldOf}
-use Rattle.table.specs.Release.{release, readTold, blockTold}
+use Rattle.table.specs.Release.{formOf, readTold, blockTold}
 use Rattle.table.specs.declared.Shape.{Shape}
 use Rattle.table.specs.declared.Header.{Header}
 use Rattle.table.specs.declared.TableAnswer.{TableAnswer}
@@ -39,7 +39,7 @@ module _ (s gains : List ℕ) (a : TableAnswer) (e : tableToldOf a ≡ readTold 
       )
 
   pub table-fits : (why : Refusal) → a ≡ table.Refused why → placeOf (No why) < 2 ^ 56
-  table-fits why n = omega (arith, ap (λ z. z .1) (ap tableToldOf (sym n) ∙ e), read-told-place release s gains)
+  table-fits why n = omega (arith, ap (λ z. z .1) (ap tableToldOf (sym n) ∙ e), read-told-place (formOf s) s gains)
 
 -- one block
 module _ (number : ℕ) (N : number < 2 ^ 32) (s : List ℕ) (a : BlockAnswer) (e : blockToldOf a ≡ blockTold number s) where
@@ -77,4 +77,4 @@ module _ (number : ℕ) (N : number < 2 ^ 32) (s : List ℕ) (a : BlockAnswer) (
       )
 
   pub block-fits : (why : Refusal) → a ≡ block.Refused why → placeOf (No why) < 2 ^ 56
-  block-fits why n = omega (arith, ap (λ z. z .1) (ap blockToldOf (sym n) ∙ e), block-told-place release number s)
+  block-fits why n = omega (arith, ap (λ z. z .1) (ap blockToldOf (sym n) ∙ e), block-told-place (formOf s) number s)

@@ -19,6 +19,7 @@ use Rattle.split.specs.Split.{splitTold, splitOut}
 use Rattle.meter.specs.Meter.{feedOf, fedTold}
 use Rattle.meter.specs.declared.Meter.{Meter}
 use Rattle.table.specs.Release.{writeTold, writeOut, readTold, readOut, blockTold}
+use Rattle.moving.specs.Moving.{moveTold, moveOut}
 use Rattle.masoritun.specs.Masoritun.{leftOf}
 
 pub record EachCall : Type 0 where
@@ -53,7 +54,7 @@ pub record EachCall : Type 0 where
       → Determined (packed (normalize.inPlaceTold st hs es hb eb buf)) (normalize.inPlaceOut st hs es hb eb buf)
   pub mst-quantize : (inv : Float) (zp : ℕ) (src : List Float) (dst : List ℕ) → Determined (packed (quantizeTold inv src dst)) (quantizeOut inv zp src dst)
   pub mst-split : (levels : List Float) (gains : List ℕ) → Determined (packed (splitTold levels gains)) (splitOut levels gains)
-  -- a meter's five numbers; a table's bytes; gains with bands and rows; a block's form, bands, rows and rows held
+  -- a meter's five numbers; a table's bytes; gains with bands and rows; a block's form, bands, rows and rows held; a moved table's bytes
   pub mst-meter-feed : (held : Meter) (src : List Float) → Determined (packed (fedTold (feedOf held src) .0)) (leftOf held src)
   pub mst-table-write : (B N : ℕ) (gains bytes : List ℕ) → Determined (packed (writeTold B N gains bytes)) (writeOut B N gains bytes)
   pub mst-table-read : (bytes gains : List ℕ) (bands rows : ℕ)
@@ -63,3 +64,5 @@ pub record EachCall : Type 0 where
       → (let t = blockTold number bytes in
       Determined {A = ℕ × ℕ × ℕ × ℕ} (packed (t .0, t .1))
       (whenZero (t .0) (t .2) form, whenZero (t .0) (t .4) bands, whenZero (t .0) (t .5) rows, whenZero (t .0) (t .6) held))
+  pub mst-table-to-form-1 : (bytes result : List ℕ) → Determined (packed (moveTold 0 bytes result)) (moveOut 0 bytes result)
+  pub mst-table-to-form-2 : (bytes result : List ℕ) → Determined (packed (moveTold 1 bytes result)) (moveOut 1 bytes result)

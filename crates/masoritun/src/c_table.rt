@@ -2,6 +2,7 @@
 ghost use mathlib.Core.Path.{_≡_};
 ghost use Rattle.pack.specs.Pack.{packed, whenZero};
 ghost use Rattle.table.specs.Release.{writeTold, writeOut, blockTold, readTold, readOut};
+ghost use Rattle.moving.specs.Moving.{moveTold, moveOut};
 use answer::Answer;
 use pack::pack;
 use table::BlockAnswer;
@@ -73,4 +74,20 @@ pub extern "C" fn mst_table_read_block(
         }
         BlockAnswer::Refused(why) => pack(Answer::Refused(why)),
     }
+}
+
+#[no_mangle]
+pub extern "C" fn mst_table_to_form_1(bytes: &[u8], result: &mut [u8]) -> u64
+    ensures told { λ r. ⌜ r ≡ packed (moveTold 0 (now (bytes .entry)) (now (result .entry))) ⌝ }
+    ensures written { λ r. ⌜ now (result .exit) ≡ moveOut 0 (now (bytes .entry)) (now (result .entry)) ⌝ }
+{
+    pack(moving::to_form_1(bytes, result))
+}
+
+#[no_mangle]
+pub extern "C" fn mst_table_to_form_2(bytes: &[u8], result: &mut [u8]) -> u64
+    ensures told { λ r. ⌜ r ≡ packed (moveTold 1 (now (bytes .entry)) (now (result .entry))) ⌝ }
+    ensures written { λ r. ⌜ now (result .exit) ≡ moveOut 1 (now (bytes .entry)) (now (result .entry)) ⌝ }
+{
+    pack(moving::to_form_2(bytes, result))
 }

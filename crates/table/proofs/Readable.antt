@@ -22,7 +22,7 @@ use Rattle.table.specs.Table.{tableToldOf, tableWith, blockToldOf, block
 use Rattle.table.specs.declared.Shape.{Shape}
 use Rattle.table.specs.declared.Header.{Header}
 use Rattle.block.proofs.Shape.{per-pos, lt-blocks}
-use Rattle.block.proofs.Tests.{Within, shape-fits}
+use Rattle.block.proofs.Tests.{Within, shape-fits, shape-stores}
 use Rattle.table.proofs.Runs.{runs-each, runs-all}
 use Rattle.table.proofs.Reading.{begun, begun-head, body-answers, table-body-answers, Good, good, good-passes, gains-many}
 
@@ -32,8 +32,8 @@ table-done Done x B N e = (refl, ap (λ t. t .2) e, ap (λ t. t .3) e)
 table-done (Refused r) x B N e = absurd (let z : classOf r ≡ 0 = ap (λ t. t .0) e in omega (arith, listed r .0))
 
 pub block-done : (a : Answer) (x : Header) (form k B N n : ℕ) → blockToldOf (blockWith a x) ≡ (0, 0, form, k, B, N, n)
-    → (Done ≡ a) × (x .bands ≡ B) × (x .rows ≡ N)
-block-done Done x form k B N n e = (refl, ap (λ t. t .4) e, ap (λ t. t .5) e)
+    → (Done ≡ a) × (x .bands ≡ B) × (x .rows ≡ N) × (x .form ≡ form)
+block-done Done x form k B N n e = (refl, ap (λ t. t .4) e, ap (λ t. t .5) e, ap (λ t. t .2) e)
 block-done (Refused r) x form k B N n e = absurd (let z : classOf r ≡ 0 = ap (λ t. t .0) e in omega (arith, listed r .0))
 
 -- a table of B bands and N rows
@@ -45,12 +45,12 @@ pub record Reads (F : Form) (s : List ℕ) (B N : ℕ) : Type 0 where
   pub each : (k : ℕ) → k < blocks (F .width B) N → Good F B N (bytesFrom s (512 * k)) k
 
 pub reads-known : {F : Form} → Sound F → {s : List ℕ} {B N : ℕ} → Reads F s B N → Known s (F .width B) B N
-reads-known S r = record { fits = shape-fits S (r .shape); long = r .long; bands = sym (r .bands); rows = sym (r .rows) }
+reads-known S r = record { stores = shape-stores S (r .shape); long = r .long; bands = sym (r .bands); rows = sym (r .rows) }
 
 -- it has a block
 pub reads-some : {F : Form} → Sound F → {s : List ℕ} {B N : ℕ} → Reads F s B N → 0 < blocks (F .width B) N
 reads-some {F} S {s} {B} {N} r =
-    let z = reads-known S r .fits in
+    let z = shape-fits S (r .shape) in
     lt-blocks (F .width B) N 0 (per-pos (F .width B) (z .some) (z .most)) (omega (arith, r .shape .rows))
 
 -- as many gains as rows times bands
@@ -99,7 +99,7 @@ judged-reads F s B N e =
 
 -- and back
 module _ {F : Form} (s : List ℕ) (B N : ℕ) (r : Reads F s B N) (some : 0 < blocks (F .width B) N) where
-  head-passes : Done ≡ judged (headTestsBy F s)
+  pub head-passes : Done ≡ judged (headTestsBy F s)
   unfolding headTestsBy
   head-passes =
       let g = r .each 0 some in

@@ -3,7 +3,7 @@ use Prim.Native.Nat.{ℕ, suc, _+_, _*_, _/_, _%_, _≤_, _<_}
 use mathlib.Core.Path.{_≡_, sym, ap, _∙_}
 use mathlib.Core.Bool.{true}
 use mathlib.Core.List.{List}
-use native.Mathlib.Nat.{mod-lt, mul-assoc, mul-comm, add-mul, div-add-mod', mul-add-div-right, mul-add-mod-self-right, div-eq-of-lt, mod-eq-of-lt, mul-le-mul-right, suc-mul, add-zero}
+use native.Mathlib.Nat.{mod-lt, mul-assoc, mul-comm, add-mul, div-add-mod', mul-le-mul-right, suc-mul}
 use native.Mathlib.Omega.{arith}
 use Rattle.lists.proofs.Tab.{tab-at}
 use Rattle.block.specs.Form.{Form, Sound}
@@ -12,19 +12,10 @@ use Rattle.block.specs.Write.{rowOk, gainOf}
 use Rattle.block.specs.Read.{bytesFrom, gainIn, gainAt, tableGainsBy}
 use Rattle.block.proofs.Shape.{per-pos, lt-blocks, wide-pos}
 use Rattle.block.proofs.Totals.{row-same}
-use Rattle.block.proofs.Given.{given-same}
+use Rattle.block.proofs.Given.{given-same, gain-in}
 use Rattle.table.proofs.Reading.{gains-are}
 use Rattle.table.proofs.Readable.{Reads, reads-known}
 use Rattle.table_facts.proofs.Block.{good-row}
-
--- gain i of block k, in the list of all gains
-pub gain-in : (s : List ℕ) (W k i : ℕ) → 1 ≤ perBlock W * W → i < perBlock W * W
-    → gainAt W s (k * (perBlock W * W) + i) ≡ gainIn (bytesFrom s (512 * k)) i
-unfolding gainAt
-gain-in s W k i h l =
-    let d : (k * (perBlock W * W) + i) / (perBlock W * W) ≡ k = mul-add-div-right h k i ∙ ap (λ (x : ℕ). k + x) (div-eq-of-lt l) ∙ add-zero k in
-    let m : (k * (perBlock W * W) + i) % (perBlock W * W) ≡ i = mul-add-mod-self-right k (perBlock W * W) i ∙ mod-eq-of-lt l in
-    rw (d, m)
 
 module _ {F : Form} (S : Sound F) (s : List ℕ) (B N : ℕ) (r : Reads F s B N) where
   abbrev W : ℕ
@@ -39,7 +30,7 @@ module _ {F : Form} (S : Sound F) (s : List ℕ) (B N : ℕ) (r : Reads F s B N)
   pub row-there : (k q R : ℕ) → k * perBlock W + q ≡ R → q < perBlock W → R < N → (j : ℕ) → j < B
       → gainOf (tableGainsBy F s) (R * B + j) ≡ given (F .parts) W B (gainIn (bytesFrom s (512 * k))) (q * B + j)
   row-there k q R d ql l j m =
-      let fit = reads-known S r .fits in
+      let fit = reads-known S r .stores .fits in
       let P : ℕ = perBlock W in
       let e : R * W ≡ k * (P * W) + q * W =
       ap (λ (x : ℕ). x * W) (sym d) ∙ add-mul (k * P) q W ∙ ap (λ (x : ℕ). x + q * W) (mul-assoc k P W) in
@@ -54,7 +45,7 @@ module _ {F : Form} (S : Sound F) (s : List ℕ) (B N : ℕ) (r : Reads F s B N)
   pub rows-add : (R : ℕ) → R < N → rowOk (F .parts) (gainOf (tableGainsBy F s)) B R ≡ true
   unfolding heldRows
   rows-add R l =
-      let fit = reads-known S r .fits in
+      let fit = reads-known S r .stores .fits in
       let P : ℕ = perBlock W in
       let pos : 1 ≤ P = per-pos W (fit .some) (fit .most) in
       let k : ℕ = R / P in

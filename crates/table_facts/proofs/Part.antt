@@ -9,6 +9,7 @@ use Rattle.block.specs.Form.{Form}
 use Rattle.block.specs.Block.{heldRows, given}
 use Rattle.block.specs.Write.{rowOk, badRow}
 use Rattle.block.specs.Read.{wordAt, gainIn, checksOk, headOkBy, blank, rowTestsBy, blockTestsBy}
+use Rattle.table.specs.Release.{dropIn}
 use Rattle.block.proofs.Shape.{held-small}
 use Rattle.block.proofs.Bytes.{checkA-same, checkB-same}
 use Rattle.block.proofs.Totals.{row-same}
@@ -17,6 +18,10 @@ use Rattle.block.proofs.Given.{given-same}
 module _ (f g : ℕ → ℕ) (same : (i : ℕ) → i < 512 → f i ≡ g i) where
   pub word-same : (i : ℕ) → i < 511 → wordAt f i ≡ wordAt g i
   word-same i l = rw (same i (omega arith), same (i + 1) (omega arith)) refl
+
+  pub drop-same : dropIn f ≡ dropIn g
+  unfolding dropIn
+  drop-same = rw (word-same 0 (omega arith)) refl
 
   pub checks-same : checksOk f ≡ checksOk g
   unfolding checksOk

@@ -12,11 +12,11 @@ use Rattle.block.specs.Block.{perBlock, blocks, heldRows, stored, tableByte, ta
 use Rattle.block.specs.Read.{bytesFrom, gainIn, gainAt, tableGainsBy}
 use Rattle.block.proofs.Shape.{per-pos, held-fits, held-wide, wide-pos}
 use Rattle.block.proofs.Bytes.{table-at}
-use Rattle.block.proofs.Given.{stored-given}
+use Rattle.block.proofs.Given.{stored-given, gain-in}
 use Rattle.table.proofs.Readable.{Reads, reads, reads-known, read-out}
 use Rattle.table_facts.specs.Trips.{Rewrites}
 use Rattle.table_facts.proofs.Block.{block-is}
-use Rattle.table_facts.proofs.Gains.{gain-in, gains-at}
+use Rattle.table_facts.proofs.Gains.{gains-at}
 use Rattle.table_facts.proofs.WritesAgain.{written-done}
 
 module _ {F : Form} (S : Sound F) (s : List ℕ) (B N : ℕ) (r : Reads F s B N) (small : (i : ℕ) → getD s i 0 < 256) where
@@ -27,7 +27,7 @@ module _ {F : Form} (S : Sound F) (s : List ℕ) (B N : ℕ) (r : Reads F s B N)
   stored-is : (i : ℕ) → i < N * W → stored W B (tableGainsBy F s) i ≡ gainAt W s i
   unfolding stored
   stored-is i l =
-      let fit = reads-known S r .fits in
+      let fit = reads-known S r .stores .fits in
       let q : i / W < N = div-lt-iff-lt-mul (fit .some) .1 l in
       let m = mod-lt i (fit .some) in
       gains-at S s B N r (i / W * B + i % W) (omega (arith, mul-le-mul-right B q, suc-mul (i / W) B, S .thin B))
@@ -37,7 +37,7 @@ module _ {F : Form} (S : Sound F) (s : List ℕ) (B N : ℕ) (r : Reads F s B N)
   same : (k : ℕ) → k < blocks W N → (i : ℕ) → i < heldRows W N k * W
       → stored W B (tableGainsBy F s) (k * (perBlock W * W) + i) ≡ gainIn (bytesFrom s (512 * k)) i
   same k kb i l =
-      let fit = reads-known S r .fits in
+      let fit = reads-known S r .stores .fits in
       stored-is (k * (perBlock W * W) + i) (omega (arith, held-fits W N k (per-pos W (fit .some) (fit .most)) kb))
       ∙ gain-in s W k i (wide-pos W (fit .some) (fit .most)) (omega (arith, held-wide W N k))
 

@@ -1,7 +1,8 @@
--- THEOREM: every claim on stored tables holds for any sound form, and so for form 1, which is this release's. Assumes nothing.
+-- THEOREM: every claim on stored tables holds for any sound form, and so for both of this release's. Assumes nothing.
+use Prim.Native.Nat.{ℕ, _≤_}
 use Rattle.block.specs.Form.{Form, Sound}
-use Rattle.table.specs.Release.{form1}
-use Rattle.table.proofs.Form1.{sound}
+use Rattle.table.specs.Release.{form1, form}
+use Rattle.table.proofs.Forms.{sound1, sound}
 use Rattle.table_facts.specs.Trips.{Trips}
 use Rattle.table_facts.proofs.ReadsBack.{reads-back}
 use Rattle.table_facts.proofs.Rewrites.{rewrites}
@@ -18,4 +19,7 @@ trips F S = record {
 }
 
 pub form1-trips : Trips form1
-form1-trips = trips form1 sound
+form1-trips = trips form1 sound1
+
+pub form-trips : (d : ℕ) → d ≤ 1 → Trips (form d)
+form-trips d few = trips (form d) (sound d few)

@@ -1,2 +1,4 @@
 pub mod Trips
 pub mod Limits
+pub mod Forms
+pub mod Moves

@@ -8,7 +8,7 @@ use Rattle.block.specs.Block.{blocks}
 use Rattle.block.specs.Write.{writeToldBy, writeOutBy}
 use Rattle.block.specs.Read.{bytesFrom, bandsOf, blockOf, readOutBy}
 use Rattle.table.specs.Table.{blockToldBy, tableToldBy, readToldBy}
-use Rattle.table.specs.Release.{release, writeTold, writeOut, readTold, readOut}
+use Rattle.table.specs.Release.{form1, writeTold, writeOut, readTold, readOut}
 
 -- the form, with m bands at most
 abbrev pub upTo : Form → ℕ → Form
@@ -45,12 +45,12 @@ OlderRefuses F =
     × (tableToldBy (upTo F m) s ≡ (11, 0, 0, 0))
     × ((k : ℕ) → k < blocks (F .width B) N → blockToldBy (upTo F m) k (blockOf s k) ≡ (11, k, 0, 0, 0, 0, 0))
 
--- ---- the release before this one, with 16 bands at most
+-- ---- the release with 16 bands at most, which had form 1 alone
 abbrev pub olderBands : ℕ
 olderBands = 16
 
 abbrev pub older : Form
-older = upTo release olderBands
+older = upTo form1 olderBands
 
 -- tables of its bands keep every byte,
 abbrev pub KeepsBytes : Type 0

@@ -29,7 +29,7 @@ use Rattle.split.proofs.Positive.{level-steps-length, steps-total}
 use Rattle.parts.proofs.Nearest.{gains-length, gains-total}
 use Rattle.block.specs.Write.{rowOk, badRow, gainOf, writeAnswerBy}
 use Rattle.block.proofs.Tests.{Within, shape-ok}
-use Rattle.table.specs.Release.{release, tableLength, writeAnswer}
+use Rattle.table.specs.Release.{form1, tableLength, writeAnswer}
 use Rattle.tabulate_core.specs.Rows.{levelAt, rowLevels, rowAnswer, rowGains, gainsTo}
 use Rattle.tabulate_core.specs.Asked.{Shaped}
 use Rattle.tabulate_core.proofs.Rows.{AllDone}
@@ -97,7 +97,7 @@ module _ {B N : ℕ} {s : List ℕ} (p : Shaped B N s) (d : AllDone B s N) where
   pub writes : Done ≡ writeAnswer B N (gainsTo B s N) (tableLength B N)
   unfolding writeAnswerBy badRow
   writes =
-      let z : Within release B N = record { some = p .some; most = p .most; rows = p .first; last = p .last } in
+      let z : Within form1 B N = record { some = p .some; most = p .most; rows = p .first; last = p .last } in
       gives
       (skip (ap not (shape-ok z))
       (skip (ap not (eq-eqb (length (gainsTo B s N)) (N * B) (all-length N (omega arith))))

@@ -11,7 +11,7 @@ use lib.Seq.{length-take-le, take-all}
 use Rattle.answer.specs.declared.Refusal.the-variants.{Count}
 use Rattle.answer.proofs.Chain.{stop}
 use Rattle.answer.specs.Limits.{bandLimit, rowLimit, levelLimit}
-use Rattle.table.specs.Release.{release, shapeOk}
+use Rattle.table.specs.Release.{form1, shapeOk}
 use Rattle.block.proofs.Tests.{Within, shape-is}
 use Rattle.tabulate_core.specs.Argument.{bandsIn}
 use Rattle.tabulate_core.specs.Tabulate.{rowsIn, tabulateTold, tabulateOut}
@@ -27,7 +27,7 @@ too-many B n h = go (shapeOk B (rowsIn B n)) refl
   where
     go : (b : Bool) → b ≡ shapeOk B (rowsIn B n) → not b ≡ true
     go false e = refl
-    go true e = let z : Within release B (rowsIn B n) = shape-is B (rowsIn B n) (sym e) in absurd (omega (arith, many-rows B n (z .some) (z .most) h, z .last))
+    go true e = let z : Within form1 B (rowsIn B n) = shape-is B (rowsIn B n) (sym e) in absurd (omega (arith, many-rows B n (z .some) (z .most) h, z .last))
 
 long-refused : (w s bytes : List ℕ) → levelLimit ≤ length s
     → (_≡_ {A = ℕ × ℕ × ℕ} (7, 0, 0) (tabulateTold w s (length bytes))) × (bytes ≡ tabulateOut w s bytes)

@@ -14,7 +14,7 @@ use Rattle.answer.specs.declared.Answer.{Answer}
 use Rattle.answer.specs.declared.Answer.the-variants.{Done, Refused}
 use Rattle.answer.proofs.Chain.{Gives, gives, stop, opened}
 use Rattle.answer.specs.Limits.{bandLimit, rowLimit}
-use Rattle.table.specs.Release.{release, shapeOk, tableLength}
+use Rattle.table.specs.Release.{form1, shapeOk, tableLength}
 use Rattle.block.proofs.Tests.{Within}
 use Rattle.tabulate_core.specs.Argument.{bandsIn}
 use Rattle.tabulate_core.specs.Rows.{stopOf}
@@ -34,7 +34,7 @@ pub room-enough : {n k : ℕ} (room : ℕ) → n ≡ k → 512 * n ≤ room → 
 room-enough {n} room e h = ap (λ (m : ℕ). ltb room (512 * m)) (sym e) ∙ le-ltb room (512 * n) h
 
 -- within the limits
-pub shaped : {B N : ℕ} {s : List ℕ} → Within release B N → length s ≡ 4 * (N * B) → Shaped B N s
+pub shaped : {B N : ℕ} {s : List ℕ} → Within form1 B N → length s ≡ 4 * (N * B) → Shaped B N s
 shaped z l = record { some = z .some; most = z .most; first = z .rows; last = z .last; long = l }
 
 -- the argument w names B bands, and the input has N rows of them, a cut one counted

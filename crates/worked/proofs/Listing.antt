@@ -7,11 +7,15 @@ use native.Mathlib.Omega.{arith}
 use Rattle.lists.specs.Lists.{sumTo}
 use Rattle.lister_core.specs.Lister.{answerText, listedBy, listed}
 use Rattle.lister_core.proofs.Cases as lister
-use Rattle.table.specs.Release.{release, tableTold, tableGains}
+use Rattle.table.specs.Table.{tableToldBy}
+use Rattle.table.specs.Release.{form1, tableOf, tableTold, tableGains}
+use Rattle.block.specs.Form.{Form}
 use Rattle.block.specs.Write.{rowOk, gainOf}
+use Rattle.block.specs.Read.{tableGainsBy}
 use Rattle.block.proofs.Cases as table
-use Rattle.table.proofs.Form1.{sound}
-use Rattle.table.proofs.Readable.{told-judged}
+use Rattle.table.proofs.Forms.{sound1}
+use Rattle.table.proofs.Readable.{Reads, told-judged}
+use Rattle.table_facts.proofs.Forms.{form1-is}
 use Rattle.table_facts.proofs.Written.{table-reads, some-block, gains-back}
 use Rattle.worked.specs.Worked.{oneBand, twoLines}
 
@@ -25,13 +29,19 @@ row-0 = refl
 adds : (R : ℕ) → R < 1 → rowOk 32768 (gainOf gains) 1 R ≡ true
 adds R l = subst (λ r. rowOk 32768 (gainOf gains) 1 r ≡ true) (let z : 0 ≡ R = omega arith in z) row-0
 
+-- the table reads, by form 1, which is the form that it says
+reads : Reads form1 (tableOf 1 1 gains) 1 1
+reads = table-reads form1 sound1 1 1 gains refl adds
+
 one-told : tableTold oneBand ≡ (0, 0, 1, 1)
 one-told =
     subst (λ (s : List ℕ). tableTold s ≡ (0, 0, 1, 1)) table.one-band
-    (told-judged _ 1 1 (table-reads release sound 1 1 gains refl adds) (some-block release sound 1 1 gains refl adds))
+    (ap (λ (F : Form). tableToldBy F (tableOf 1 1 gains)) (form1-is reads) ∙ told-judged _ 1 1 reads (some-block form1 sound1 1 1 gains refl adds))
 
 one-gains : tableGains oneBand ≡ gains
-one-gains = subst (λ (s : List ℕ). tableGains s ≡ gains) table.one-band (gains-back release sound 1 1 gains refl adds refl)
+one-gains =
+    subst (λ (s : List ℕ). tableGains s ≡ gains) table.one-band
+    (ap (λ (F : Form). tableGainsBy F (tableOf 1 1 gains)) (form1-is reads) ∙ gains-back form1 sound1 1 1 gains refl adds refl)
 
 pub one-listed : listed oneBand ≡ twoLines
 unfolding listedBy answerText

@@ -1,12 +1,14 @@
 -- The whole blocks read so far were fed, and are held as long as there is room.
 use borrow.Author.Needs.{needs}
-use Prim.Native.Nat.{_-_}
+use Prim.Native.Nat.{ℕ, _-_, _≤_}
 use mathlib.Core.Path.{_≡_, refl, ap, _∙_}
+use mathlib.Core.List.{List}
 use native.Mathlib.Omega.{arith}
 use lib.ListN.{length}
-use Rattle.table.specs.Release.{release}
 use Rattle.judging.specs.declared.Judging.{Judging}
-use Rattle.judging.proofs.Fed.{fed-next}
+use Rattle.judging.specs.Judging.{piecesIn}
+use Rattle.judging.proofs.Fed.{fed-next, few-fed}
+use Rattle.lister_facts.specs.Held.{Kept}
 use Rattle.lister_facts.proofs.Held.{Holding, holding-none, holding-more, kept-none, kept-last, kept-all}
 use Rattle.judged_input.proofs.judge_input.Statement.{statement}
 use Rattle.judged_input.proofs.judge_input.Tie as tie
@@ -16,6 +18,13 @@ Inv-loop from held₀ block₀ j₀ at₀ held block j at = (length held ≡ len
 
 abbrev μ-loop : tie.MeasureT-loop
 μ-loop from held₀ block₀ j₀ at₀ held block j at = 18446744073709551615 - j .next
+
+-- the form that was found leaves out one gain at most
+few : {j : Judging} {held : List ℕ} {at : ℕ} → Holding j held at → j .drop ≤ 1
+few {j} h = omega (arith, ap (λ (i : Judging). i .drop) (h .state), few-fed (h .fed) (j .next))
+
+kept-few : {j : Judging} {held : List ℕ} → Kept j held → j .drop ≤ 1
+kept-few k = omega (arith, ap (λ (i : Judging). i .drop) (k .fed), few-fed (k .input) (piecesIn (k .input)))
 
 start-requires : tie.Need-start-requires Inv-loop μ-loop
 start-requires c κs = search needs
@@ -39,7 +48,7 @@ slice-aggregate-feed : tie.Need-slice-aggregate-feed Inv-loop μ-loop
 slice-aggregate-feed c = search needs
 
 feed-requires : tie.Need-feed-requires Inv-loop μ-loop
-feed-requires c κs = search needs
+feed-requires c κs = let at-loop = c .before .before .before .before .before .before .before .before .before in (omega arith, few (at-loop .loop .inv .2))
 
 same-length : tie.Need-same-length Inv-loop μ-loop
 same-length c = search needs
@@ -47,7 +56,7 @@ same-length c = search needs
 returns : tie.Need-returns Inv-loop μ-loop
 returns c =
     let at-loop = c .before .before .before .before .before .before .before .before .before .before in
-    kept-last (at-loop .loop .j) _ _ _ _ (at-loop .loop .inv .2) (omega arith) (c .feed .ensures)
+    let k = kept-last (at-loop .loop .j) _ _ _ _ (at-loop .loop .inv .2) (omega arith) (c .feed .ensures) in (k, kept-few k)
 
 start-requires-2 : tie.Need-start-requires-2 Inv-loop μ-loop
 start-requires-2 c κs = search needs
@@ -56,13 +65,13 @@ same-length-2 : tie.Need-same-length-2 Inv-loop μ-loop
 same-length-2 c = search needs
 
 returns-2 : tie.Need-returns-2 Inv-loop μ-loop
-returns-2 c = kept-none _ _ (c .start2 .ensures)
+returns-2 c = let k = kept-none _ _ (c .start2 .ensures) in (k, kept-few k)
 
 slice-aggregate-feed-2 : tie.Need-slice-aggregate-feed-2 Inv-loop μ-loop
 slice-aggregate-feed-2 c = search needs
 
 feed-requires-2 : tie.Need-feed-requires-2 Inv-loop μ-loop
-feed-requires-2 c κs = search needs
+feed-requires-2 c κs = let at-loop = c .before .before .before .before .before .before .before in (omega arith, few (at-loop .loop .inv .2))
 
 slice-aggregate-put-text : tie.Need-slice-aggregate-put-text Inv-loop μ-loop
 slice-aggregate-put-text c = search needs
@@ -74,7 +83,7 @@ loop-less : tie.Need-loop-less Inv-loop μ-loop
 loop-less c =
     let at-feed = c .before .before .before .before .before in
     let at-loop = at-feed .before .before .before .before .before .before .before .before in
-    let n = ap (λ (j : Judging). j .next) (at-feed .feed2 .ensures) ∙ fed-next release (at-loop .loop .j) _ (omega arith) in
+    let n = ap (λ (j : Judging). j .next) (at-feed .feed2 .ensures) ∙ fed-next (at-loop .loop .j) _ (omega arith) in
     omega (arith, n)
 
 loop-again : tie.Need-loop-again Inv-loop μ-loop
@@ -89,7 +98,7 @@ same-length-3 : tie.Need-same-length-3 Inv-loop μ-loop
 same-length-3 c = search needs
 
 returns-3 : tie.Need-returns-3 Inv-loop μ-loop
-returns-3 c = kept-all _ _ _ (c .before .before .loop .inv .2)
+returns-3 c = let k = kept-all _ _ _ (c .before .before .loop .inv .2) in (k, kept-few k)
 
 pub judge-input-spec : {M : Type 1} → statement M
 judge-input-spec =

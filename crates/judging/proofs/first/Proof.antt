@@ -1,10 +1,12 @@
 use borrow.Author.Needs.{needs}
 use mathlib.Core.Path.{refl}
-use Rattle.table.proofs.Form1.{sound}
-use Rattle.judging.specs.Judging.{firstBy}
+use Rattle.judging.specs.Judging.{firstOf}
 use Rattle.judging.proofs.Named.{first-fits}
 use Rattle.judging.proofs.first.Statement.{statement}
 use Rattle.judging.proofs.first.Tie as tie
+
+drop-in-requires : tie.Need-drop-in-requires
+drop-in-requires c κs = search needs
 
 word-at-requires : tie.Need-word-at-requires
 word-at-requires c κs = search needs
@@ -17,13 +19,14 @@ first-answer-requires c κs = search needs
 
 blocks-named-requires : tie.Need-blocks-named-requires
 blocks-named-requires c κs =
-    first-fits sound _ _ _ (c .first-answer .result) (c .before .before .word-at .ensures .0) (c .before .word-at2 .ensures .0) (c .first-answer .ensures)
+    first-fits _ _ _ _ (c .first-answer .result) (c .before .before .before .drop-in .ensures .0) (c .before .before .word-at .ensures .0) (c .before .word-at2 .ensures .0)
+    (c .first-answer .ensures)
 
 block-requires : tie.Need-block-requires
 block-requires c κs = search needs
 
 returns : tie.Need-returns
-unfolding firstBy
+unfolding firstOf
 returns c =
     let at-named = c .before in
     let at-answer = at-named .before in
@@ -35,6 +38,7 @@ returns c =
       at-answer .first-answer .ensures,
       at-rows .word-at2 .ensures .0,
       at-bands .word-at .ensures .0,
+      at-bands .before .drop-in .ensures .0,
     )
     refl
 
@@ -42,6 +46,7 @@ pub first-spec : {M : Type 1} → statement M
 first-spec =
     tie.close
     (tie.spec
+    drop-in-requires
     word-at-requires
     word-at-requires-2
     first-answer-requires

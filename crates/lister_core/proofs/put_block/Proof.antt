@@ -1,6 +1,6 @@
 -- The rows that a block holds lie in it, and their lines are the block's.
 use borrow.Author.Needs.{needs}
-use Prim.Native.Nat.{_*_}
+use Prim.Native.Nat.{_-_, _*_}
 use native.Mathlib.Omega.{arith}
 use Rattle.block.specs.Block.{perBlock, heldRows}
 use Rattle.lister_core.specs.Asked.{Rows}
@@ -9,8 +9,14 @@ use Rattle.lister_core.proofs.put_block.Statement.{statement}
 use Rattle.lister_core.proofs.put_block.Tie as tie
 
 -- its rows
-held : (c : tie.Start) → Rows (c .args .k * perBlock (c .args .bands)) (heldRows (c .args .bands) (c .args .rows) (c .args .k)) (c .args .bands)
-held c = block-rows (c .args .bands) (c .args .rows) (c .args .k) (c .pre .0) (c .pre .1)
+held : (c : tie.Start)
+    → let a = c .args in
+    let W = a .bands - a .drop in
+    Rows (a .k * perBlock W) (heldRows W (a .rows) (a .k)) W (a .bands)
+held c = block-rows (c .args .drop) (c .args .bands) (c .args .rows) (c .args .k) (c .pre .1) (c .pre .0) (c .pre .2)
+
+sub-width : tie.Need-sub-width
+sub-width c = search needs
 
 held-in-requires : tie.Need-held-in-requires
 held-in-requires c κs = search needs
@@ -24,7 +30,7 @@ mul-put-rows c = omega (arith, held (c .before .before .before) .last)
 put-rows-requires : tie.Need-put-rows-requires
 put-rows-requires c κs =
     let start = c .before .before .before .before in
-    (rw (c .before .held-in .ensures) (held start), start .pre .2, start .pre .3)
+    (rw (c .before .held-in .ensures) (held start), start .pre .3, start .pre .4)
 
 same-length : tie.Need-same-length
 same-length c = search needs
@@ -34,9 +40,9 @@ returns c =
     let at-rows = c .before .before in
     let at-held = at-rows .before .before in
     let start = at-held .before .before .before in
-    block-put _ (start .args .rows) _ (start .pre .0) (start .pre .1) _ _ _ _ _ (at-held .held-in .ensures) (at-rows .put-rows .ensures)
+    block-put _ _ (start .args .rows) _ (start .pre .1) (start .pre .0) (start .pre .2) _ _ _ _ _ (at-held .held-in .ensures) (at-rows .put-rows .ensures)
 
 pub put-block-spec : {M : Type 1} → statement M
 put-block-spec =
     tie.close
-    (tie.spec held-in-requires div-put-rows mul-put-rows put-rows-requires same-length returns)
+    (tie.spec sub-width held-in-requires div-put-rows mul-put-rows put-rows-requires same-length returns)

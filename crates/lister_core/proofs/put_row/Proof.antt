@@ -1,11 +1,13 @@
 -- The row's number and its first j gains were put, with room left for the others.
 use Prim.Native.Nat.{ℕ, _+_, _-_, _*_, _≤_}
-use mathlib.Core.Path.{_≡_, refl, ap, _∙_}
+use mathlib.Core.Path.{_≡_, refl}
 use native.Mathlib.Omega.{arith}
 use lib.ListN.{length}
 use borrow.Author.Needs.{needs}
 use Rattle.lists.specs.Lists.{tab}
 use Rattle.digits.proofs.Written.{wrote-length}
+use Rattle.answer.specs.Limits.{parts}
+use Rattle.block.specs.Block.{rowGain}
 use Rattle.block.specs.Read.{bytesFrom, wordAt}
 use Rattle.lister_core.specs.Lines.{gainsText}
 use Rattle.lister_core.proofs.Room.{Put, put-digits}
@@ -14,12 +16,12 @@ use Rattle.lister_core.proofs.put_row.Statement.{statement}
 use Rattle.lister_core.proofs.put_row.Tie as tie
 
 abbrev Inv-loop : tie.InvT-loop
-Inv-loop row bytes first bands at out₀ next₀ j₀ p₀ t11 out next j p =
-    (j ≤ bands) × (p ≡ first + 2 * j) × (next₀ + (6 * bands + 1) ≤ length out₀) × (length out ≡ length out₀)
-    × Put (6 * j) (gainsText (tab (λ (i : ℕ). wordAt (bytesFrom bytes 0) (first + 2 * i)) j)) next₀ out₀ out next
+Inv-loop row bytes first width bands at out₀ next₀ j₀ t12 out next j =
+    (j ≤ bands) × (next₀ + (6 * bands + 1) ≤ length out₀) × (length out ≡ length out₀)
+    × Put (6 * j) (gainsText (tab (rowGain parts width (λ (i : ℕ). wordAt (bytesFrom bytes 0) (first + 2 * i)) 0) j)) next₀ out₀ out next
 
 abbrev μ-loop : tie.MeasureT-loop
-μ-loop row bytes first bands at out₀ next₀ j₀ p₀ t11 out next j p = bands - j
+μ-loop row bytes first width bands at out₀ next₀ j₀ t12 out next j = bands - j
 
 put-number-requires : tie.Need-put-number-requires Inv-loop μ-loop
 put-number-requires c κs = search needs
@@ -28,22 +30,16 @@ loop-holds : tie.Need-loop-holds Inv-loop μ-loop
 loop-holds c =
     let start = c .before .before .before .before .before .before in
     let p = put-digits 5 (start .args .row) (omega arith) (omega (arith, start .pre .0)) (omega arith) (c .before .before .put-number .ensures) in
-    (omega arith, omega arith, omega (arith, p .short, wrote-length (p .wrote)), omega arith, gains-none _ _ _ (omega (arith, p .wrote .fits, wrote-length (p .wrote))))
+    (omega arith, omega (arith, p .short, wrote-length (p .wrote)), omega arith, gains-none _ _ _ (omega (arith, p .wrote .fits, wrote-length (p .wrote))))
 
-word-at-requires : tie.Need-word-at-requires Inv-loop μ-loop
-word-at-requires c κs = omega arith
-
-cast-gain : tie.Need-cast-gain Inv-loop μ-loop
-cast-gain c = omega (arith, c .word-at .ensures .1)
+gain-in-requires : tie.Need-gain-in-requires Inv-loop μ-loop
+gain-in-requires c κs = search needs
 
 put-gain-requires : tie.Need-put-gain-requires Inv-loop μ-loop
-put-gain-requires c κs = omega (arith, c .before .before .before .loop .inv .4 .short)
+put-gain-requires c κs = omega (arith, c .before .before .before .loop .inv .3 .short)
 
 add-j : tie.Need-add-j Inv-loop μ-loop
 add-j c = omega arith
-
-add-p : tie.Need-add-p Inv-loop μ-loop
-add-p c = omega arith
 
 loop-less : tie.Need-loop-less Inv-loop μ-loop
 loop-less c = omega arith
@@ -51,16 +47,12 @@ loop-less c = omega arith
 loop-again : tie.Need-loop-again Inv-loop μ-loop
 loop-again c =
     let at-put-gain = c .before .before in
-    let at-word = at-put-gain .before .before in
-    let at-loop = at-word .before .before in
-    let start = at-loop .before .before .before .before .before .before .before in
+    let at-gain-in = at-put-gain .before .before in
+    let at-loop = at-gain-in .before .before in
     let i = at-loop .loop .inv in
     let e = at-put-gain .put-gain .ensures in
-    let w = wordAt (bytesFrom (start .args .bytes .now) 0) in
-    let p =
-    gains-more (λ (k : ℕ). w (start .args .first + 2 * k)) (at-loop .loop .j) (at-word .word-at .result) _ _ _ _ _ _ (at-word .word-at .ensures .0 ∙ ap w (i .1)) (i .4)
-    (e .0) (e .1) in
-    (omega arith, omega arith, i .2, wrote-length (p .wrote), p)
+    let p = gains-more _ (at-loop .loop .j) (at-gain-in .gain-in .result) _ _ _ _ _ _ (at-gain-in .gain-in .ensures) (i .3) (e .0) (e .1) in
+    (omega arith, i .1, wrote-length (p .wrote), p)
 
 slice-aggregate-put-text : tie.Need-slice-aggregate-put-text Inv-loop μ-loop
 slice-aggregate-put-text c = refl
@@ -75,7 +67,7 @@ returns c =
     let at-number = at-loop .before .before .before in
     let start = at-number .before .before .before .before in
     let p = put-digits 5 (start .args .row) (omega arith) (omega (arith, start .pre .0)) (omega arith) (at-number .put-number .ensures) in
-    row-put (start .args .row) _ (start .args .bands) (at-loop .loop .j) _ _ _ _ _ _ _ _ (omega arith) (omega arith) p (at-loop .loop .inv .4)
+    row-put (start .args .row) _ (start .args .bands) (at-loop .loop .j) _ _ _ _ _ _ _ _ (omega arith) (omega arith) p (at-loop .loop .inv .3)
     (at-put-text .put-text .ensures)
 
 same-length : tie.Need-same-length Inv-loop μ-loop
@@ -89,11 +81,9 @@ put-row-spec =
     μ-loop
     put-number-requires
     loop-holds
-    word-at-requires
-    cast-gain
+    gain-in-requires
     put-gain-requires
     add-j
-    add-p
     loop-less
     loop-again
     slice-aggregate-put-text

@@ -36,8 +36,9 @@ show-held-requires c κs =
     let at-judge = at-finish .before .before .before in
     let start = at-judge .before .before .before .before in
     let d = done-is (at-finish .finish .result) (sym (at-if1 .before .is-done .ensures) ∙ not-false _ (at-if1 .if1 .left)) ∙ at-finish .finish .ensures in
-    let r = ready (at-judge .judge-input .result) _ (at-judge .judge-input .ensures) (omega arith) d in
-    (r .fits, r .want, r .room, omega arith)
+    let e = at-judge .judge-input .ensures in
+    let r = ready (at-judge .judge-input .result) _ (e .0) (omega arith) d in
+    (r .stores, e .1, r .want, r .room, omega arith)
 
 same-length-3 : tie.Need-same-length-3
 same-length-3 c = search needs

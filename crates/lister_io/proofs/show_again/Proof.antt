@@ -4,16 +4,16 @@ use mathlib.Core.Path.{_≡_, sym, _∙_}
 use native.Mathlib.Omega.{arith}
 use lib.ListN.{length}
 use borrow.Author.Tests.{not-false}
-use Rattle.table.proofs.Reading.{good, good-fits}
-use Rattle.table.proofs.Form1.{sound}
+use Rattle.table.proofs.Reading.{good, good-stores}
+use Rattle.table.proofs.Forms.{sound}
 use Rattle.lister_io.proofs.show_again.Statement.{statement}
 use Rattle.lister_io.proofs.show_again.Tie as tie
 
 abbrev Inv-loop : tie.InvT-loop
-Inv-loop from bands rows want block₀ text₀ k₀ block text k = (k ≤ want) × (length block ≡ 512) × (length text ≡ length text₀)
+Inv-loop from drop bands rows want block₀ text₀ k₀ block text k = (k ≤ want) × (length block ≡ 512) × (length text ≡ length text₀)
 
 abbrev μ-loop : tie.MeasureT-loop
-μ-loop from bands rows want block₀ text₀ k₀ block text k = want - k
+μ-loop from drop bands rows want block₀ text₀ k₀ block text k = want - k
 
 loop-holds : tie.Need-loop-holds Inv-loop μ-loop
 loop-holds c = search needs
@@ -42,8 +42,8 @@ show-block-requires c κs =
     let at-next = at-if1 .before .before .before .before in
     let start = at-next .before .before .before .before .before .before in
     let d = at-next .next-block .ensures (sym (at-if1 .before .is-done .ensures) ∙ not-false _ (at-if1 .if1 .left)) in
-    let f = good-fits sound (good (start .args .bands) (start .args .rows) _ _ d) in
-    (f .0, f .1, omega arith, omega arith)
+    let f = good-stores (sound (start .args .drop) (start .pre .1)) (good (start .args .bands) (start .args .rows) _ _ d) in
+    (f .0, start .pre .1, f .1, omega arith, omega arith)
 
 add-k : tie.Need-add-k Inv-loop μ-loop
 add-k c = search needs

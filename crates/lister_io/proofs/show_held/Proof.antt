@@ -7,10 +7,10 @@ use Rattle.lister_io.proofs.show_held.Statement.{statement}
 use Rattle.lister_io.proofs.show_held.Tie as tie
 
 abbrev Inv-loop : tie.InvT-loop
-Inv-loop bands rows want held text₀ k₀ at₀ text k at = (k ≤ want) × (at ≡ 512 * k) × (length text ≡ length text₀)
+Inv-loop drop bands rows want held text₀ k₀ at₀ text k at = (k ≤ want) × (at ≡ 512 * k) × (length text ≡ length text₀)
 
 abbrev μ-loop : tie.MeasureT-loop
-μ-loop bands rows want held text₀ k₀ at₀ text k at = want - k
+μ-loop drop bands rows want held text₀ k₀ at₀ text k at = want - k
 
 loop-holds : tie.Need-loop-holds Inv-loop μ-loop
 loop-holds c = search needs
@@ -30,7 +30,7 @@ part-show-block-end c = search needs
 show-block-requires : tie.Need-show-block-requires Inv-loop μ-loop
 show-block-requires c κs =
     let start = c .before .before .before .before .before .before in
-    (start .pre .0, omega (arith, start .pre .1), omega arith, omega arith)
+    (start .pre .0, start .pre .1, omega (arith, start .pre .2), omega arith, omega arith)
 
 add-k : tie.Need-add-k Inv-loop μ-loop
 add-k c = search needs

@@ -12,8 +12,8 @@ use Rattle.answer.proofs.Chain.{stop, skip, clear}
 use Rattle.block.proofs.Shape.{blocks-small}
 use Rattle.answer.proofs.Follows.{few-gains}
 use Rattle.block.proofs.Tests.{Within, shape-is, shape-fits}
-use Rattle.table.specs.Release.{release}
-use Rattle.table.proofs.Form1.{sound}
+use Rattle.table.specs.Release.{form1}
+use Rattle.table.proofs.Forms.{sound1}
 use Rattle.tabulate_core.specs.Tabulate.{rowsIn}
 use Rattle.tabulate_core.proofs.Told.{room-short, room-enough, shaped, tells-refused, tells-none, tells-stored}
 use Rattle.tabulate_core.proofs.tabulate.Statement.{statement}
@@ -26,7 +26,7 @@ bands c = c .before .before .before .bands-in .result
 abbrev rows : tie.Else2 → ℕ
 rows c = (length (c .before .before .before .before .before .before .before .args .input .now) + (4 * bands c - 1)) / (4 * bands c)
 
-shape : (c : tie.Else2) → Within release (bands c) (rows c)
+shape : (c : tie.Else2) → Within form1 (bands c) (rows c)
 shape c = shape-is (bands c) (rows c) (sym (c .before .shape-ok .ensures) ∙ not-false _ (c .if2 .left))
 
 bands-in-requires : tie.Need-bands-in-requires
@@ -81,7 +81,7 @@ returns-3 c =
     (skip (ap not (sym (at-shape .shape-ok .ensures)) ∙ at-if2 .if2 .left) (stop (ap not (ne-eqb _ _ (c .before .if3 .taken))))) (c .refused3 .ensures)
 
 blocks-of-requires : tie.Need-blocks-of-requires
-blocks-of-requires c κs = shape-fits sound (shape (c .before))
+blocks-of-requires c κs = shape-fits sound1 (shape (c .before))
 
 mul-end : tie.Need-mul-end
 mul-end c =

@@ -3,6 +3,7 @@
 // A build compares the parts whose features are on: what the others would use is then idle.
 #![allow(dead_code)]
 
+mod damage;
 mod lent;
 mod plan;
 mod tally;
@@ -11,6 +12,8 @@ mod tally;
 mod meter;
 #[cfg(feature = "min_max")]
 mod min_max;
+#[cfg(feature = "moves")]
+mod moves;
 #[cfg(feature = "normalize")]
 mod normalize;
 #[cfg(feature = "quantize")]
@@ -51,6 +54,8 @@ const PARTS: &[Part] = &[
     ("meter", meter::compare),
     #[cfg(feature = "table")]
     ("table", table::compare),
+    #[cfg(feature = "moves")]
+    ("moves", moves::compare),
 ];
 
 fn main() {

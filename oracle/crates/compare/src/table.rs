@@ -1,13 +1,14 @@
 //! The stored table: writing, reading a table and reading one block, with every kind of damage.
 
+use crate::damage::{Table, damaged, drawn};
 use crate::lent::Lent;
 use crate::plan::{Mode, other_length};
 use crate::tally::{Tally, hex};
 use cases::Rng;
 use reference::Answer;
 use reference::answer::DONE;
-use reference::split::{BAND_LIMIT, gains};
-use reference::table::{BLOCK, blocks, checks, read, read_block, rows_a_block, write};
+use reference::split::BAND_LIMIT;
+use reference::table::{BLOCK, blocks, read, read_block, write};
 
 unsafe extern "C" {
     fn mst_table_write(bands: u32, rows: u32, gains: *const u16, n: usize, bytes: *mut u8, m: usize) -> u64;
@@ -28,44 +29,23 @@ pub fn compare(mode: Mode, report: &mut dyn FnMut(Tally)) {
     let [mut writing, mut reading, mut one] = names.map(Tally::new);
     let mut rng = Rng::new("compare table");
     for _ in 0..mode.calls(30_000) {
-        let (bands, rows) = sizes(&mut rng);
-        let table = table(&mut rng, bands, rows);
-        write_call(&mut writing, &mut rng, bands as u32, rows as u32, &table);
-        let mut bytes = vec![0; BLOCK * blocks(bands, rows)];
-        assert_eq!(write(bands as u32, rows as u32, &table, &mut bytes), DONE);
+        let table = drawn(&mut rng);
+        write_call(&mut writing, &mut rng, &table);
+        let n = table.gains.len();
         for _ in 0..4 {
-            let damaged = damage(&mut rng, &bytes, bands);
-            let lent = if rng.one_in(8) { other_length(&mut rng, table.len()) } else { table.len() };
+            let damaged = damaged(&mut rng, &table);
+            let lent = if rng.one_in(8) { other_length(&mut rng, n) } else { n };
             read_call(&mut reading, &mut rng, &damaged, lent);
             block_call(&mut one, &mut rng, &damaged);
         }
-        read_call(&mut reading, &mut rng, &bytes, table.len());
+        read_call(&mut reading, &mut rng, &table.bytes, n);
     }
     [writing, reading, one].into_iter().for_each(report);
 }
 
-/// Mostly a few rows; now and then up to the limit, or about a block's edge, or over 256 blocks, whose numbers need both bytes.
-fn sizes(rng: &mut Rng) -> (usize, usize) {
-    if rng.one_in(128) {
-        return (BAND_LIMIT - rng.below(2), 1024 - rng.below(256));
-    }
-    let bands = 1 + rng.below(BAND_LIMIT);
-    let rows = match rng.below(64) {
-        0 => 1024,
-        1 => 1 + rng.below(1024),
-        2..20 => (rows_a_block(bands) * (1 + rng.below(3)) + rng.below(3)).saturating_sub(1).clamp(1, 1024),
-        _ => 1 + rng.below(20),
-    };
-    (bands, rows)
-}
-
-fn table(rng: &mut Rng, bands: usize, rows: usize) -> Vec<u16> {
-    (0..rows).flat_map(|_| gains(&text::softmax(false, &rng.list(bands, |r| r.unit() * 5.0)))).collect()
-}
-
-fn write_call(tally: &mut Tally, rng: &mut Rng, bands: u32, rows: u32, table: &[u16]) {
-    let (mut bands, mut rows, mut table) = (bands, rows, table.to_vec());
-    let mut m = BLOCK * blocks(bands as usize, rows as usize);
+fn write_call(tally: &mut Tally, rng: &mut Rng, table: &Table) {
+    let mut m = BLOCK * blocks(1, table.bands, table.rows);
+    let (mut bands, mut rows, mut table) = (table.bands as u32, table.rows as u32, table.gains.clone());
     if rng.one_in(2) {
         match rng.below(5) {
             0 => bands = rng.pick(&[0, BAND_LIMIT as u32 + 1, 65536, 65537, u32::MAX, bands + 1]),
@@ -90,49 +70,6 @@ fn write_call(tally: &mut Tally, rng: &mut Rng, bands: u32, rows: u32, table: &[
     tally.answer(word, answer, &about);
     tally.lent("bytes", &got, &want, &about);
     tally.lent("gains", &lent, &table, &about);
-}
-
-/// None to three kinds of damage, with the checks put right again or not.
-fn damage(rng: &mut Rng, bytes: &[u8], bands: usize) -> Vec<u8> {
-    let mut bytes = bytes.to_vec();
-    for _ in 0..rng.below(4) {
-        let count = bytes.len() / BLOCK;
-        if count == 0 {
-            break;
-        }
-        let block = rng.below(count) * BLOCK;
-        let at = block
-            + match rng.below(4) {
-                0 => rng.below(8),
-                1 => 8 + rng.below(2 * bands * 3),
-                2 => 508 - 1 - rng.below(20),
-                _ => rng.below(BLOCK),
-            };
-        match rng.below(10) {
-            0 => bytes.truncate(rng.pick(&[0, 1, 511, bytes.len() - 1, bytes.len() - BLOCK])),
-            1 => bytes.extend_from_within(..BLOCK),
-            2 => bytes.copy_within(block..block + BLOCK, rng.below(count) * BLOCK),
-            3 => move_a_part(rng, &mut bytes[block..block + BLOCK]),
-            4 => bytes[at] = rng.pick(&[0, 1, 2, 4, 16, 17, 63, 64, 65, 128, 255]),
-            _ => bytes[at] = bytes[at].wrapping_add(rng.pick(&[1, 255, 128])),
-        }
-        if rng.one_in(4) {
-            continue;
-        }
-        for block in bytes.chunks_exact_mut(BLOCK) {
-            let [plain, weighed] = checks(block);
-            block[508..510].copy_from_slice(&(plain as u16).to_le_bytes());
-            block[510..512].copy_from_slice(&(weighed as u16).to_le_bytes());
-        }
-    }
-    bytes
-}
-
-/// One part from a stored gain to the next: a row may keep its total.
-fn move_a_part(rng: &mut Rng, block: &mut [u8]) {
-    let at = 8 + 2 * rng.below(40);
-    block[at] = block[at].wrapping_add(1);
-    block[at + 2] = block[at + 2].wrapping_sub(1);
 }
 
 fn read_call(tally: &mut Tally, rng: &mut Rng, bytes: &[u8], m: usize) {

@@ -4,7 +4,7 @@ use reference::Answer;
 use reference::answer::DONE;
 use reference::quantize::quantize;
 use reference::split::split;
-use reference::table::{BLOCK, blocks, checks, read, read_block, write};
+use reference::table::{BLOCK, blocks, read, read_block, seal, write};
 use reference::unary::{Op, apply, eval};
 
 const MASK: f32 = f32::NEG_INFINITY;
@@ -85,20 +85,13 @@ fn slanting(bands: usize, rows: usize) -> Vec<u16> {
     (0..rows).flat_map(|r| (0..bands).map(move |b| if b == r % bands { 32768 } else { 0 })).collect()
 }
 
-/// The checks put right.
-fn seal(block: &mut [u8]) {
-    for (i, sum) in checks(block).into_iter().enumerate() {
-        block[508 + 2 * i..510 + 2 * i].copy_from_slice(&(sum as u16).to_le_bytes());
-    }
-}
-
 /// Request L7: at 64 bands a block holds 3 rows, and 1,024 rows take 342 blocks.
 #[test]
 fn wide_tables() {
-    assert_eq!(BLOCK * blocks(64, 1024), 175_104);
+    assert_eq!(BLOCK * blocks(1, 64, 1024), 175_104);
     for bands in [17, 63, 64] {
         let rows = slanting(bands, 1024);
-        let mut bytes = vec![9; BLOCK * blocks(bands, 1024)];
+        let mut bytes = vec![9; BLOCK * blocks(1, bands, 1024)];
         assert_eq!(write(bands as u32, 1024, &rows, &mut bytes), DONE);
         assert_eq!(read(&bytes, rows.len()).unwrap().1, rows);
     }

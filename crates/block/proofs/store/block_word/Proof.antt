@@ -1,26 +1,29 @@
--- Each number of the block by its place: the four of the header, a stored gain, whose index lies inside the gains, or 0.
-use Prim.Native.Nat.{ℕ, _+_, _-_, _*_, _/_, _%_, _<_}
-use mathlib.Core.Path.{sym, ap, _∙_}
+-- Each number of the block by its place: the four of the header, a stored gain, whose index lies inside the rows' gains, or 0.
+use Prim.Native.Nat.{_+_, _-_, _*_, _/_, _%_, _<_}
+use mathlib.Core.Path.{_≡_, sym, ap, _∙_}
 use native.Mathlib.Omega.{arith}
 use lib.ListN.{length}
-use Rattle.block.specs.Block.{blockWord, stored}
-use Rattle.block.proofs.Shape.{per-pos, few-blocks, stored-small, stored-in}
+use Rattle.block.specs.Block.{perBlock, blockWord, stored}
+use Rattle.block.proofs.Shape.{per-pos, few-blocks, stored-in}
 use Rattle.block.proofs.Bytes.{word-in, word-out}
 use Rattle.block.proofs.store.block_word.Statement.{statement}
 use Rattle.block.proofs.store.block_word.Tie as tie
 
--- where a gain is stored: the sum and the index are in range
+-- where a gain is stored
 abbrev first : tie.Then5 → tie.Start
 first c = c .before .before .before .before .before
 
-small : (c : tie.Then5) → first c .args .start + (first c .args .j - 4) < 65535 * 250
-small c = let p = first c .pre in stored-small (p .0 .0) _ _ _ _ (p .0 .1) (p .1 .0) (p .1 .1) (c .if5 .taken)
-
 inside : (c : tie.Then5)
-    → (first c .args .start + (first c .args .j - 4)) / first c .args .width * first c .args .bands
-    + (first c .args .start + (first c .args .j - 4)) % first c .args .width
+    → (first c .args .j - 4) / first c .args .width * first c .args .bands + (first c .args .j - 4) % first c .args .width
     < length (first c .args .gains .now)
-inside c = let p = first c .pre in stored-in (p .0 .0) _ _ _ _ (p .0 .1) (p .1 .0) (p .1 .1) (c .if5 .taken)
+inside c =
+    let p = first c .pre in
+    let a = first c .args in
+    omega (
+      arith,
+      p .0 .long,
+      stored-in (a .width) (a .bands) (a .rows) (a .k) (a .j - 4) (p .0 .stores .fits .some) (p .0 .stores .thin) (omega (arith, c .if5 .taken, p .1)),
+    )
 
 returns : tie.Need-returns
 unfolding blockWord
@@ -29,7 +32,7 @@ returns c = rw (c .if1 .taken)
 cast-result : tie.Need-cast-result
 cast-result c =
     let start = c .before .before in
-    omega (arith, few-blocks _ _ _ (per-pos _ (start .pre .0 .0 .fits .some) (start .pre .0 .0 .fits .most)) (start .pre .0 .1))
+    omega (arith, few-blocks _ _ _ (per-pos _ (start .pre .0 .stores .fits .some) (start .pre .0 .stores .fits .most)) (start .pre .0 .inside))
 
 returns-2 : tie.Need-returns-2
 unfolding blockWord
@@ -55,9 +58,6 @@ sub-if5 c = omega arith
 sub-i : tie.Need-sub-i
 sub-i c = omega arith
 
-add-i : tie.Need-add-i
-add-i c = omega (arith, small c)
-
 div-result : tie.Need-div-result
 div-result c = omega arith
 
@@ -79,10 +79,10 @@ shared-slice-read-result c = inside (c .before)
 returns-5 : tie.Need-returns-5
 unfolding stored
 returns-5 c =
-    let start = c .before .before .before .before .before .before in
-    let a = start .args in
-    ap (λ (x : ℕ). stored (a .width) (a .bands) (a .gains .now) (x + (a .j - 4))) (start .pre .1 .0)
-    ∙ sym (word-in _ _ _ _ _ _ _ (omega arith) (omega arith))
+    let a = first (c .before) .args in
+    let from = a .k * (perBlock (a .width) * a .width) in
+    let z : a .j - 4 ≡ from + (a .j - 4) - from = omega arith in
+    ap (stored (a .width) (a .bands) (a .gains .now)) z ∙ sym (word-in _ _ _ _ _ _ _ (omega arith) (omega arith))
 
 returns-6 : tie.Need-returns-6
 returns-6 c = sym (word-out _ _ _ _ _ _ _ (omega arith) (omega arith))
@@ -100,7 +100,6 @@ block-word-spec =
     returns-4
     sub-if5
     sub-i
-    add-i
     div-result
     mul-result
     rem-result

@@ -1,38 +1,27 @@
 -- The first j numbers of the block are in its bytes; then its two checks, which are those of the 508 bytes before them.
 use Prim.Native.Nat.{ℕ, _+_, _-_, _*_, _≤_}
-use mathlib.Core.Path.{_≡_, refl, ap}
+use mathlib.Core.Path.{_≡_, ap}
 use native.Mathlib.Omega.{arith}
 use Rattle.lists.specs.Lists.{Placed}
 use Rattle.lists.proofs.Placed.{placed-none}
-use Rattle.block.specs.Block.{tableByte}
-use Rattle.block.proofs.Shape.{per-fits, held-small, start-small}
+use Rattle.block.specs.Asked.{ownWord, runByte}
+use Rattle.block.proofs.Shape.{held-small}
 use Rattle.block.proofs.Storing.{block-more, block-sealed}
 use Rattle.block.proofs.store.write_block.Statement.{statement}
 use Rattle.block.proofs.store.write_block.Tie as tie
 
 abbrev Inv-loop : tie.InvT-loop
-Inv-loop form width bands rows gains k bytes₀ at start count j₀ p₀ bytes j p =
-    (p ≡ 512 * k + 2 * j) × (j ≤ 254) × Placed 0 bytes₀ bytes (512 * k) p (tableByte form width bands rows gains)
+Inv-loop form width bands rows gains k bytes₀ at count j₀ p₀ bytes j p =
+    (p ≡ 512 * k + 2 * j) × (j ≤ 254) × Placed 0 bytes₀ bytes (512 * k) p (runByte (ownWord form width bands rows gains k))
 
 abbrev μ-loop : tie.MeasureT-loop
-μ-loop form width bands rows gains k bytes₀ at start count j₀ p₀ bytes j p = 254 - j
+μ-loop form width bands rows gains k bytes₀ at count j₀ p₀ bytes j p = 254 - j
 
 mul-at : tie.Need-mul-at Inv-loop μ-loop
 mul-at c = omega arith
 
-div-start : tie.Need-div-start Inv-loop μ-loop
-div-start c = omega arith
-
-mul-start : tie.Need-mul-start Inv-loop μ-loop
-mul-start c = omega (arith, per-fits (c .before .before .args .width))
-
-mul-start-2 : tie.Need-mul-start-2 Inv-loop μ-loop
-mul-start-2 c =
-    let start = c .before .before in
-    omega (arith, start-small (start .args .k) (start .pre .0 .0) (start .pre .0 .1))
-
 held-in-requires : tie.Need-held-in-requires Inv-loop μ-loop
-held-in-requires c κs = (c .before .before .pre .0 .0 .fits, c .before .before .pre .0 .1)
+held-in-requires c κs = (c .before .before .pre .0 .stores .fits, c .before .before .pre .0 .inside)
 
 mul-count : tie.Need-mul-count Inv-loop μ-loop
 mul-count c =
@@ -46,7 +35,7 @@ block-word-requires : tie.Need-block-word-requires Inv-loop μ-loop
 block-word-requires c κs =
     let at-held-in = c .before .before in
     let start = at-held-in .before .before .before in
-    (start .pre .0, (refl, ap (λ (x : ℕ). x * start .args .width) (at-held-in .held-in .ensures)))
+    (start .pre .0, ap (λ (x : ℕ). x * start .args .width) (at-held-in .held-in .ensures))
 
 put-word-requires : tie.Need-put-word-requires Inv-loop μ-loop
 put-word-requires c κs = omega (arith, c .before .before .before .loop .inv .2 .long)
@@ -69,7 +58,7 @@ loop-again c =
     let l = at-loop .loop .inv in (
       omega arith,
       omega arith,
-      block-more _ _ _ _ _ _ _ _ _ _ _ _ (l .2) (l .0) (omega arith) (start .pre .1) (at-block-word .block-word .ensures) (at-put-word .put-word .ensures),
+      block-more _ _ _ _ _ _ _ _ (l .2) (l .0) (omega arith) (start .pre .1) (at-block-word .block-word .ensures) (at-put-word .put-word .ensures),
     )
 
 sums-requires : tie.Need-sums-requires Inv-loop μ-loop
@@ -94,7 +83,7 @@ returns c =
     let at-sums = at-put-word2 .before .before in
     let at-loop = at-sums .before .before .before in
     let start = at-loop .before .before .before .before in
-    block-sealed _ _ _ _ _ _ _ _ _ _ _ _ _ (at-loop .loop .inv .2) (omega arith) (start .pre .1) (at-sums .sums .ensures .0) (at-sums .sums .ensures .1)
+    block-sealed _ _ _ _ _ _ _ _ _ (at-loop .loop .inv .2) (omega arith) (start .pre .1) (at-sums .sums .ensures .0) (at-sums .sums .ensures .1)
     (at-put-word2 .put-word2 .ensures) (at-put-word3 .put-word3 .ensures)
 
 same-length : tie.Need-same-length Inv-loop μ-loop
@@ -107,9 +96,6 @@ write-block-spec =
     Inv-loop
     μ-loop
     mul-at
-    div-start
-    mul-start
-    mul-start-2
     held-in-requires
     mul-count
     loop-holds

@@ -2,7 +2,7 @@ use mathlib.Core.Path.{_∙_, ap}
 use native.Mathlib.Omega.{arith}
 use denote.Ref.{now}
 use lib.ListN.{length}
-use Rattle.table.specs.Release.{release}
+use Rattle.table.specs.Release.{form1}
 use Rattle.table.proofs.Place.{write-place}
 use Rattle.pack.specs.Pack.{packed}
 use borrow.Author.Needs.{needs}
@@ -15,7 +15,7 @@ write-requires c κs = search needs
 pack-requires : tie.Need-pack-requires
 pack-requires c κs =
     let a = c .before .before .before .before .before .before .args in
-    omega (arith, write-place release (a .bands) (a .rows) (now (a .gains)) (length (now (a .bytes))), ap (λ t. t .1) (c .before .before .write .ensures .0))
+    omega (arith, write-place form1 (a .bands) (a .rows) (now (a .gains)) (length (now (a .bytes))), ap (λ t. t .1) (c .before .before .write .ensures .0))
 
 same-length : tie.Need-same-length
 same-length c = search needs

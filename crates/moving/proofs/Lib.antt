@@ -1,0 +1,4 @@
+pub mod Moved
+pub mod Length
+pub mod Determined
+pub mod Place
