@@ -2,7 +2,7 @@
 use Prim.Native.Nat.{ℕ, suc, zero, _+_, _-_, _*_, _/_, _%_, _≤_, _<_}
 use mathlib.Core.Path.{_≡_, refl, sym, ap, _∙_, fun-ext}
 use mathlib.Core.List.{List}
-use native.Mathlib.Nat.{div-add-mod', mul-assoc, add-mul, mul-add-div-right, mul-add-mod-self-right}
+use native.Mathlib.Nat.{mul-assoc, add-mul, mul-add-div-right, mul-add-mod-self-right}
 use native.Mathlib.Decide.{decLt}
 use native.Mathlib.Omega.{arith}
 use lib.ListN.{getD}
@@ -129,8 +129,3 @@ own-run form W B N k g own h l same i a b =
     let q : (k * (perBlock W * W) + j) % W ≡ j % W = ap (λ (x : ℕ). x % W) e ∙ mul-add-mod-self-right (k * perBlock W) W j in
     ap (stored W B own) c ∙ same (j / W * B + j % W) (stored-in W B N k j h l m)
     ∙ ap (λ (x : ℕ). getD g x 0) (rw (d, q) (omega (arith, add-mul (k * perBlock W) (j / W) B))))))
-
--- where all of a row is stored, the stored gains are the gains
-pub stored-all : (B : ℕ) (g : List ℕ) → stored B B g ≡ (λ (i : ℕ). getD g i 0)
-unfolding stored
-stored-all B g = fun-ext (λ i. ap (λ (x : ℕ). getD g x 0) (div-add-mod' i B))

@@ -49,7 +49,7 @@ module _ (parts W B : ℕ) (f : ℕ → ℕ) where
       ∙ sum-const (parts - sum) (B - W))
 
   -- so the sum of what is stored says whether it adds up
-  pub row-adds : (r sum d : ℕ) → W ≡ B - d → d ≤ B → sum ≡ sumTo (λ j. f (r * W + j)) W
+  row-adds : (r sum d : ℕ) → W ≡ B - d → d ≤ B → sum ≡ sumTo (λ j. f (r * W + j)) W
       → rowOk parts (given parts W B f) B r ≡ eqb (sum + d * (parts - sum)) parts
   unfolding rowOk
   row-adds r sum d w h e =

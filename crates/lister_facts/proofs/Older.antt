@@ -1,4 +1,4 @@
--- The listers of before (`OlderFormLister`, `OlderLister`, `KeepsText`). Assumes nothing.
+-- The listers of before (`OlderFormLister`, `KeepsListing`, `OlderLister`, `KeepsText`). Assumes nothing.
 use Prim.Native.Nat.{_≤_}
 use mathlib.Core.Path.{sym, ap, ap₂, _∙_}
 use mathlib.Core.Bool.{cond}
@@ -15,12 +15,12 @@ use Rattle.table.specs.Release.{form1}
 use Rattle.table.proofs.Forms.{sound1}
 use Rattle.table.proofs.Readable.{judged-reads}
 use Rattle.table_facts.specs.Limits.{upTo, olderBands, older}
-use Rattle.table_facts.proofs.Forms.{form1-is}
+use Rattle.table_facts.proofs.Forms.{form1-of, form1-drop}
 use Rattle.table_facts.proofs.Limits.{reads-alike, gains-alike}
 use Rattle.table_facts.proofs.Older.{older-refuses, older-form}
 use Rattle.lister_core.specs.Lines.{refusedLine}
 use Rattle.lister_core.specs.Lister.{answerText, listedBy}
-use Rattle.lister_facts.specs.Older.{OlderFormLister, cappedBy, OlderLister, KeepsText}
+use Rattle.lister_facts.specs.Older.{OlderFormLister, KeepsListing, cappedBy, OlderLister, KeepsText}
 use Rattle.lister_facts.proofs.Listed.{refused-text}
 
 pub older-form-lister : OlderFormLister
@@ -28,6 +28,9 @@ unfolding listedBy
 older-form-lister m s B N e d =
     ap (λ x. answerText x (tableGainsBy (upTo form1 m) s)) (older-form m s [] B N e d .2)
     ∙ sym (refused-text 11 0 0 0 (tableGainsBy (upTo form1 m) s) (omega arith))
+
+pub keeps-listing : KeepsListing
+keeps-listing s e = ap (λ (F : Form). listedBy F s) (form1-of s e)
 
 pub older-lister : OlderLister
 unfolding cappedBy listedBy
@@ -45,4 +48,4 @@ keeps-text s B N e h =
     let top : bandsOf (bytesFrom s 0) ≤ bandLimit = omega (arith, r .bands, r .shape .most) in
     rw (le-ltb (tableMost olderBands) (length s) (omega (arith, r .long)))
     (ap₂ answerText (reads-alike form1 olderBands bandLimit s [] low top .2) (gains-alike form1 olderBands bandLimit s low top)
-    ∙ ap (λ (F : Form). listedBy F s) (sym (form1-is r)))
+    ∙ sym (keeps-listing s (form1-drop r)))

@@ -22,6 +22,10 @@ OlderFormLister =
     → dropOf s ≡ 1
     → listedBy (upTo form1 m) s ≡ refusedLine 11 0
 
+-- to bytes that do not say form 2, sound or damaged, the text of form 1 alone
+abbrev pub KeepsListing : Type 0
+KeepsListing = (s : List ℕ) → dropOf s ≡ 0 → listed s ≡ listedBy form1 s
+
 -- 9 where the input is longer than the cap, else by the form F
 unfoldable pub cappedBy : Form → ℕ → List ℕ → List ℕ
 cappedBy F cap s = cond (ltb cap (length s)) (refusedLine 9 0) (listedBy F s)

@@ -1,7 +1,7 @@
 -- The length of a table by its form's number, at each of the ways out. Assumes nothing.
 use Prim.Native.Nat.{ℕ, _-_, _*_, _≤_}
 use mathlib.Core.Path.{_≡_, refl, ap}
-use mathlib.Core.Bool.{Bool, true, false, _&&_, _||_}
+use mathlib.Core.Bool.{true, false, _||_}
 use native.Mathlib.Decide.{decLt}
 use native.Mathlib.Omega.{arith}
 use lib.Dec.{eqb}
@@ -25,13 +25,9 @@ module _ (number B N : ℕ) where
   ]
 
   -- and bands or rows outside
-  none : (b : Bool) → (b && false) ≡ false
-  none true = refl
-  none false = refl
-
-  pub no-shape : shapeOkBy (form (number - 1)) B N ≡ false → 0 ≡ lengthIn number B N
+  pub no-shape : 1 ≤ number → number ≤ 2 → shapeOkBy (form (number - 1)) B N ≡ false → 0 ≡ lengthIn number B N
   unfolding lengthIn
-  no-shape e = rw (e, none (eqb number 1 || eqb number 2)) refl
+  no-shape l h e = rw (either l h, e) refl
 
   -- or inside
   pub length-is : (n : ℕ) → 1 ≤ number → number ≤ 2 → shapeOkBy (form (number - 1)) B N ≡ true → n ≡ blocks (B - (number - 1)) N

@@ -10,7 +10,7 @@ use Rattle.answer.specs.declared.Answer.{Answer}
 use Rattle.block.specs.Form.{Form}
 use Rattle.block.specs.Block.{blocks, tableBytes}
 use Rattle.block.specs.Write.{shapeOkBy, writeAnswerBy, writeToldBy, writeOutBy}
-use Rattle.block.specs.Read.{bytesFrom, wordAt, blockAnswerBy, headTestsBy, bodyTestsBy, readAnswerBy, tableAnswerBy, tableGainsBy, readOutBy}
+use Rattle.block.specs.Read.{bytesFrom, wordAt, headTestsBy, bodyTestsBy, readAnswerBy, tableAnswerBy, tableGainsBy, readOutBy}
 use Rattle.table.specs.Table.{blockToldBy, tableToldBy, readToldBy}
 
 -- form 1 stores all of a row
@@ -53,9 +53,6 @@ abbrev pub writeOut : ℕ → ℕ → List ℕ → List ℕ → List ℕ
 writeOut B N gains bytes = writeOutBy form1 B N gains bytes
 
 -- ---- reading a block
-abbrev pub blockAnswer : ℕ → List ℕ → Answer
-blockAnswer number s = blockAnswerBy (formOf s) number s
-
 abbrev pub blockTold : ℕ → List ℕ → ℕ × ℕ × ℕ × ℕ × ℕ × ℕ × ℕ
 blockTold number s = blockToldBy (formOf s) number s
 

@@ -25,7 +25,7 @@ pub form-drop : (d : ℕ) → d ≤ 1 → {s : List ℕ} {B N : ℕ} → Reads (
 form-drop d few {s} r = drop-is (bytesFrom s 0) d few (said (sound d few) r)
 
 -- and one that says no other is form 1
-form1-of : (s : List ℕ) → dropOf s ≡ 0 → formOf s ≡ form1
+pub form1-of : (s : List ℕ) → dropOf s ≡ 0 → formOf s ≡ form1
 form1-of s e = ap form e ∙ form-zero
 
 pub form1-drop : {s : List ℕ} {B N : ℕ} → Reads form1 s B N → dropOf s ≡ 0
@@ -36,8 +36,12 @@ form1-is {s} r = form1-of s (form1-drop r)
 
 pub keeps-reading : KeepsReading
 keeps-reading s lent e =
-    let z = form1-of s e in
-    (ap (λ (F : Form). readToldBy F s lent) z, ap (λ (F : Form). readOutBy F s lent) z, ap (λ (F : Form). tableToldBy F s) z)
+    let z = form1-of s e in (
+      ap (λ (F : Form). readToldBy F s lent) z,
+      ap (λ (F : Form). readOutBy F s lent) z,
+      ap (λ (F : Form). tableToldBy F s) z,
+      λ k. ap (λ (F : Form). blockToldBy F k s) z,
+    )
 
 pub form-reads-back : FormReadsBack
 form-reads-back d B N gains bytes lent few t l =

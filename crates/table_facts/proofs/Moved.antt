@@ -8,10 +8,10 @@ use native.Mathlib.Omega.{arith}
 use lib.ListN.{length, getD}
 use lib.Dec.{eqb}
 use borrow.Author.Tests.{ltb-false, eqb-true, eqb-false}
-use Rattle.answer.specs.Answer.{classOf, numberOf, judged, orElse, toldOf, whenDone}
-use Rattle.answer.specs.declared.Answer.{Answer}
-use Rattle.answer.specs.declared.Answer.the-variants.{Done, Refused}
-use Rattle.answer.proofs.Numbers.{listed, zero-done}
+use Rattle.answer.specs.Answer.{judged, toldOf, whenDone}
+use Rattle.answer.specs.declared.Answer.the-variants.{Done}
+use Rattle.answer.proofs.Numbers.{zero-done}
+use Rattle.answer.proofs.Joined.{both-done}
 use Rattle.answer.proofs.Chain.{opened}
 use Rattle.block.specs.Block.{blocks, tableBytes}
 use Rattle.block.specs.Write.{shapeOkBy}
@@ -36,10 +36,6 @@ moves d s result B N t some l =
     sym (ap toldOf (move-done d s (length result) B N (p .0) (sym (p .1)) (sym (p .2)) some _ refl l))
 
 -- a move that is done: the table passed, and has bands enough
-passed : (a b : Answer) → Done ≡ orElse a b → (Done ≡ a) × (Done ≡ b)
-passed Done b e = (refl, e)
-passed (Refused r) b e = absurd (let z : 0 ≡ classOf r = ap numberOf e in omega (arith, listed r .0))
-
 module _ (d : ℕ) (s result : List ℕ) (few : d ≤ 1) (t : moveTold d s result ≡ (0, 0)) where
   abbrev B : ℕ
   B = bandsOf (bytesFrom s 0)
@@ -55,13 +51,13 @@ module _ (d : ℕ) (s result : List ℕ) (few : d ≤ 1) (t : moveTold d s resul
 
   reads : Reads (formOf s) s B N
   reads =
-      let e = passed (tableAnswer s) (judged (moveTests d s (length result))) done .0 in
+      let e = both-done (tableAnswer s) (judged (moveTests d s (length result))) done .0 in
       judged-reads (formOf s) s B N (sym (ap (λ a. tableToldOf (tableWith a (shapeOf (bytesFrom s 0)))) e))
 
   some : d < B
   unfolding moveTests
   some =
-      let e = passed (tableAnswer s) (judged (moveTests d s (length result))) done .1 in
+      let e = both-done (tableAnswer s) (judged (moveTests d s (length result))) done .1 in
       omega (arith, ltb-false B (1 + d) (opened _ _ _ e .0))
 
   shape : shapeOkBy (form d) B N ≡ true

@@ -66,7 +66,10 @@ abbrev pub KeepsReading : Type 0
 KeepsReading =
     (s lent : List ℕ)
     → dropOf s ≡ 0
-    → (readTold s lent ≡ readToldBy form1 s lent) × (readOut s lent ≡ readOutBy form1 s lent) × (tableTold s ≡ tableToldBy form1 s)
+    → (readTold s lent ≡ readToldBy form1 s lent)
+    × (readOut s lent ≡ readOutBy form1 s lent)
+    × (tableTold s ≡ tableToldBy form1 s)
+    × ((k : ℕ) → blockTold k s ≡ blockToldBy form1 k s)
 
 -- and a sound table of form 2 is refused, whatever the most bands m: `read` answers 11 at 0 and keeps the lent gains, `shape_of` answers 11 at 0,
 -- `read_block` 11 at each block

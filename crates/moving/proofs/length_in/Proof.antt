@@ -36,7 +36,7 @@ shape-ok-requires c κs = search needs
 returns-3 : tie.Need-returns-3
 returns-3 c =
     let start = c .before .before .before .before in
-    no-shape (start .args .form) _ _ (sym (c .before .shape-ok .ensures) ∙ not-true _ (c .if3 .taken))
+    no-shape (start .args .form) _ _ (omega arith) (omega arith) (sym (c .before .shape-ok .ensures) ∙ not-true _ (c .if3 .taken))
 
 sub-blocks-of : tie.Need-sub-blocks-of
 sub-blocks-of c = omega (arith, within c .some)
