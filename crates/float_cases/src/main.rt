@@ -1,5 +1,7 @@
 // Runs the f32 functions and the words of `floats` on their edges and writes what they give.
 // The expected output is made by tools/float_cases.py from the words of RULES, Steps, with exact fractions.
+#![tactic(auto)]
+
 use floats::bits::{abs, abs_by_order, from_pattern, is_finite, pattern};
 use floats::round::round_ties_even;
 use floats::word::{add_word, shl_23, sub_word};

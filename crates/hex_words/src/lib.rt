@@ -1,5 +1,7 @@
 // Stored answers for the replay programs: text of 32-bit words, each 8 hexadecimal digits and one byte after it, lists of numbers in it,
 // and the lines that those programs write.
+#![tactic(auto)]
+
 ghost use Rattle.std.specs.Prelude.{◌≤◌, ◌<◌, length};
 
 use floats::bits::{from_pattern, pattern};

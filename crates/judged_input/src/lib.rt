@@ -1,4 +1,6 @@
 // An input judged block by block as it is read, and held as far as there is room. For the programs above.
+#![tactic(auto)]
+
 ghost use Rattle.std.specs.Prelude.{◌≤◌};
 ghost use Rattle.lister_facts.specs.Held.{Kept};
 

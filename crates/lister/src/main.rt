@@ -1,4 +1,6 @@
 // Lists the stored table in the file that its argument names, or without one that on standard input: its lines, or the one line of a refusal.
+#![tactic(auto)]
+
 ghost use Rattle.io.specs.Counts.{IsPrefixLen};
 
 use libc::STDIN_FILENO;

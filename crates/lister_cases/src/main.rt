@@ -1,5 +1,7 @@
 // Lists the tables in data/, good and damaged, each after its name, as standard input and as a named file; then two names that no file can be read
 // by, and files that change between two readings. Tables and expected lines come from tools/lister_cases.py.
+#![tactic(auto)]
+
 use libc::STDOUT_FILENO;
 use lister_io::{run, run_file, run_twice};
 

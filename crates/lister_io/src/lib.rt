@@ -1,5 +1,7 @@
 // What the programs over `lister_core` share: a table from a descriptor or a file, block by block, and its lines or the one line of a refusal to
 // standard output.
+#![tactic(auto)]
+
 ghost use Rattle.std.specs.Prelude.{◌≡◌, true, ◌-◌, ◌*◌, ◌<◌, ◌≤◌, length};
 ghost use Rattle.answer.specs.Answer.{is_done, judged};
 ghost use Rattle.answer.specs.Limits.{table_limit, block_room};

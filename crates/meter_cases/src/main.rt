@@ -2,6 +2,8 @@
 // A case is 19 words: 1 for the held meter, a new one at first, or 0 for the one that the next five give; how many samples are fed; and
 // the first twelve of them, after which each is 1. A line is number, place, and the meter that is held afterwards: count, overs, sum of
 // squares, least and largest. The last line says how many cases there were. tools/meter_cases.py makes both files.
+#![tactic(auto)]
+
 ghost use Rattle.std.specs.Prelude.{◌≡◌, ◌≤◌, length};
 
 use answer::{Answer, number, place};

@@ -1,5 +1,7 @@
 // Moves the tables in data/, good and damaged, to both forms: a line with the name; then for each form, with as many bytes lent as it needs and
 // with none, number and place of the answer and, where it is done, the moved bytes. Tables and expected output come from tools/moving_cases.py.
+#![tactic(auto)]
+
 ghost use Rattle.std.specs.Prelude.{◌≡◌, length};
 ghost use Rattle.answer.specs.Limits.{table_limit};
 

@@ -1,6 +1,8 @@
 // Runs both normalize calls on stored cases of three elements, also those that are refused with 3, 4 and 6.
 // A case is pre_scale_bias, scale, bias, has_scale, has_bias, three scales, three biases and three elements. A line is number, place
 // and the three words afterwards, of the call from slice to slice and of the call in place; tools/normalize_cases.py makes both files.
+#![tactic(auto)]
+
 ghost use Rattle.std.specs.Prelude.{◌≤◌};
 
 use answer::{Answer, number, place};

@@ -1,4 +1,6 @@
 // What a program writes to standard output.
+#![tactic(auto)]
+
 use libc::STDOUT_FILENO;
 
 // Whether all of it was written. Where not, as on a full disc, a line on standard error has the program's name and the reason.

@@ -1,6 +1,8 @@
 // Runs min_max, max_num and min_num on stored lists and compares with the values that the reference gives by the rule of RULES, Extremes.
 // A case is n, n elements, the least, the largest, and two readings of the Rust text over one lane, that keep the first or the
 // second operand on a tie: each is min_max's least and largest, max_num's value, min_num's value.
+#![tactic(auto)]
+
 ghost use Rattle.std.specs.Prelude.{◌≤◌};
 
 use answer::number;

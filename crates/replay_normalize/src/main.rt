@@ -1,5 +1,7 @@
 // Runs both normalize calls on stored lists and compares with the stored outputs of the Rust text over one lane.
 // A case is pre_scale_bias, scale, bias, has_scale, has_bias, n, n scales if has_scale, n biases if has_bias, n elements, n outputs.
+#![tactic(auto)]
+
 ghost use Rattle.std.specs.Prelude.{◌≤◌};
 
 use answer::number;

@@ -1,6 +1,8 @@
 // Runs quantize on stored lists and compares with the stored codes, of the Rust text over one lane for products to 2^30 and of
 // the reference, which is made from docs/RULES.md, beyond.
 // A case is inv_scale, zero_point, n, n elements and n codes.
+#![tactic(auto)]
+
 ghost use Rattle.std.specs.Prelude.{◌≤◌};
 
 use answer::number;

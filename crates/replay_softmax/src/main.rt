@@ -1,5 +1,7 @@
 // Runs both softmax calls on stored lists and compares with the stored outputs of the Rust text over one lane.
 // A case is flush, n, n elements and n outputs.
+#![tactic(auto)]
+
 ghost use Rattle.std.specs.Prelude.{◌≤◌};
 
 use answer::number;

@@ -1,5 +1,7 @@
 // Runs the sums on stored lists and compares with the stored sums of the Rust text over one lane.
 // A case is the operator's place in `SumOp`, the offset, n, n elements and their sum.
+#![tactic(auto)]
+
 ghost use Rattle.std.specs.Prelude.{◌≤◌};
 
 use answer::number;

@@ -1,6 +1,8 @@
 // Runs each operator on stored inputs and compares with the stored answers of the Rust text over one lane.
 // A case is four words: the operator's place in `Op`, alpha, the input, the answer. The answers were made by compiling the Rust
 // files unchanged against a one-lane stand-in for rten-simd with the readings of RULES, Steps; see docs/DIFFERENCES.md.
+#![tactic(auto)]
+
 use answer::number;
 use floats::bits::{from_pattern, pattern};
 use hex_words::{count, word};

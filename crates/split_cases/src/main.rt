@@ -1,5 +1,7 @@
 // Splits stored levels, and writes for each case the answer's number and place, the gains that are left and their sum.
 // A case is m, n and n levels, with m gains lent; the expected lines come from tools/split_cases.py.
+#![tactic(auto)]
+
 ghost use Rattle.std.specs.Prelude.{◌≤◌};
 
 use answer::{number, place};

@@ -1,4 +1,6 @@
 // Reads rows of levels, as many to a row as its argument says, and writes their stored table; a refusal is a line on standard error.
+#![tactic(auto)]
+
 ghost use Rattle.io.specs.Counts.{IsPrefixLen};
 
 use libc::{STDERR_FILENO, STDIN_FILENO};

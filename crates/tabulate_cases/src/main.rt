@@ -1,5 +1,7 @@
 // Tabulates levels in data/: its arguments are a file's name and the word for the bands, in turn. For each two of them it writes a line
 // with both, then the table's bytes or the line of the refusal, and last the number of cases. tools/tabulate_cases.py makes all files.
+#![tactic(auto)]
+
 ghost use Rattle.std.specs.Prelude.{◌<◌};
 
 use libc::STDOUT_FILENO;

@@ -1,4 +1,6 @@
 // What the programs over `tabulate_core` share: levels from a descriptor, and the table or the line of a refusal to another.
+#![tactic(auto)]
+
 ghost use Rattle.std.specs.Prelude.{◌≡◌, ◌≤◌, length};
 ghost use Rattle.io.specs.Counts.{IsPrefixLen};
 ghost use Rattle.answer.specs.Limits.{table_limit, level_limit, pair_room};

@@ -2,6 +2,8 @@
 // A case is seven words: the operator's place in `Op`, alpha, how many elements of src and of dst are lent, and src's first three
 // elements; the others are +0, and dst holds sevens. A line is number, place, and dst afterwards, what is not lent too: each word that
 // is unlike the one before it, after its place. The last line says how many cases there were. tools/unary_cases.py makes both files.
+#![tactic(auto)]
+
 ghost use Rattle.std.specs.Prelude.{◌≡◌, ◌≤◌, length};
 
 use answer::{number, place};
