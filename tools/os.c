@@ -1,7 +1,6 @@
-/* The C functions of the kit's library `os` that tabulate and lister call, by that library's contracts: the kit has them compiled for
-   x86-64 alone. */
+/* The C functions of the kit's library `os` that tabulate and lister reach through std, by that library's contracts: the kit has them
+   compiled for x86-64 alone. */
 #include <errno.h>
-#include <fcntl.h>
 #include <stddef.h>
 #include <stdint.h>
 
@@ -13,8 +12,6 @@ __attribute__((constructor)) static void keep(int argc, char **argv) {
     count = argc < 0 ? 0 : (size_t)argc;
     words = argv;
 }
-
-size_t rattle_arg_count(void) { return count; }
 
 /* The length of argument i, which is put at the start of buf; -1 where there is none, -2 where it does not fit: buf is full then. */
 intptr_t rattle_arg(size_t i, uint8_t *buf, size_t n) {
@@ -28,9 +25,6 @@ intptr_t rattle_arg(size_t i, uint8_t *buf, size_t n) {
     }
     return (intptr_t)k;
 }
-
-/* A path is 4,096 bytes with a 0 among them. */
-int rattle_open_to_read(const uint8_t *path) { return open((const char *)path, O_RDONLY | O_CLOEXEC | O_NOCTTY); }
 
 int rattle_errno(void) { return errno; }
 
