@@ -115,5 +115,5 @@ leaves_input() { echo input | { tabulate 2>"$work/told" && same 'echo input' cat
 tells_full() {
     who=$1 input=$2
     shift 2
-    "$who" "$@" <"$input" >/dev/full 2>"$work/told" && same 'echo "$who: standard output: No space left on device"' 'cat "$work/told"'
+    "$who" "$@" <"$input" >/dev/full 2>"$work/told" && same 'echo "$who: standard output: No space left on device (os error 28)"' 'cat "$work/told"'
 }
