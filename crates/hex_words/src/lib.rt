@@ -1,9 +1,12 @@
 // Stored answers for the replay programs: text of 32-bit words, each 8 hexadecimal digits and one byte after it, lists of numbers in it,
 // and the lines that those programs write.
+#![tactic(auto)]
+
 ghost use Rattle.std.specs.Prelude.{◌≤◌, ◌<◌, length};
 
 use floats::bits::{from_pattern, pattern};
-use libc::STDOUT_FILENO;
+use std::io;
+use std::io::Write;
 
 // The value of a digit; 0 for any other byte.
 fn digit(b: u8) -> u32
@@ -85,16 +88,11 @@ pub fn same_floats(text: &[u8], from: usize, src: &[f32]) -> bool
 }
 
 // The line of a case that differs.
-pub fn differs(case: usize) {
-    io::write_all(STDOUT_FILENO, b"case ");
-    io::print_decimal(STDOUT_FILENO, case as u64);
-    io::write_all(STDOUT_FILENO, b" differs\n");
+pub fn differs<W: Write>(case: usize, out: &mut W) -> io::Result<()> {
+    writeln!(out, "case {case} differs")
 }
 
 // The closing line.
-pub fn closing(cases: usize, differ: usize) {
-    io::print_decimal(STDOUT_FILENO, cases as u64);
-    io::write_all(STDOUT_FILENO, b" cases, ");
-    io::print_decimal(STDOUT_FILENO, differ as u64);
-    io::write_all(STDOUT_FILENO, b" differ\n");
+pub fn closing<W: Write>(cases: usize, differ: usize, out: &mut W) -> io::Result<()> {
+    writeln!(out, "{cases} cases, {differ} differ")
 }

@@ -1,13 +1,17 @@
 // Runs quantize on stored lists and compares with the stored codes, of the Rust text over one lane for products to 2^30 and of
 // the reference, which is made from docs/RULES.md, beyond.
 // A case is inv_scale, zero_point, n, n elements and n codes.
+#![tactic(auto)]
+
 ghost use Rattle.std.specs.Prelude.{◌≤◌};
 
 use answer::number;
 use floats::bits::from_pattern;
 use hex_words::{closing, differs, floats_at, places, word};
-use libc::STDIN_FILENO;
 use quantize::quantize;
+use std::io;
+use std::io::Write;
+use system::read_full;
 
 fn is_code(code: u8, stored: u32) -> bool {
     code as u32 == stored
@@ -56,7 +60,7 @@ fn agrees(text: &[u8], at: usize, n: usize) -> bool
     codes_agree(text, at, &mut src[..n], &mut dst[..n])
 }
 
-fn replay(text: &[u8]) {
+fn replay<W: Write>(text: &[u8], out: &mut W) -> io::Result<()> {
     let end = places(text);
     let mut at = 0;
     let mut cases = 0;
@@ -64,17 +68,17 @@ fn replay(text: &[u8]) {
     while at < end {
         let n = word(text, at + 2) as usize;
         if !agrees(text, at, n) {
-            differs(cases);
+            differs(cases, out)?;
             differ += 1;
         }
         cases += 1;
         at += 2 * n + 3;
     }
-    closing(cases, differ);
+    closing(cases, differ, out)
 }
 
-fn main() {
-    let mut text = io::large_buffer();
-    let n = io::read_full(STDIN_FILENO, &mut text);
-    replay(&text[..n]);
+fn main(rt: HostRuntime) -> io::Result<()> {
+    let mut text = [0u8; 65536];
+    let n = read_full(&mut rt.stdin(), &mut text);
+    replay(&text[..n], &mut rt.stdout())
 }
