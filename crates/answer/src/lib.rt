@@ -1,10 +1,12 @@
 // What a call may answer: the numbered list (RULES, Numbers), one variant for each number above 0.
+#![tactic(auto)]
+
 ghost use Rattle.std.specs.Prelude.{◌≡◌};
 ghost use Rattle.answer.specs.Answer.{is_done, class_of, where_of, number_of, place_of};
 
 pub mod limits;
 
-#[derive(Drop)]
+#[derive(Clone, Copy)]
 pub enum Refusal {
     Length,
     TooMany,
@@ -21,7 +23,7 @@ pub enum Refusal {
     OneBand,
 }
 
-#[derive(Drop)]
+#[derive(Clone, Copy)]
 pub enum Answer {
     Done,
     Refused(Refusal),

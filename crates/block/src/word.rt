@@ -27,7 +27,7 @@ pub fn put_word(at: usize, w: u16, bytes: &mut [u8])
     bytes[at + 1] = (w / 256) as u8;
 }
 
-#[derive(Drop)]
+#[derive(Clone, Copy)]
 pub struct Checks {
     pub a: u16,
     pub b: u16,

@@ -1,5 +1,6 @@
 // The f32 constants of exp.rs, tanh.rs, erf.rs and sin_cos.rs, by the Rust's names; a literal that the Rust leaves unnamed has a name here.
 // LOG2_E, LN_2 and SQRT_2 are the decimals of Rust's std::f32::consts.
+#![tactic(auto)]
 
 // exp.rs
 pub const INV_LOG2: f32 = 1.44269504088896340735992468100189214;

@@ -1,4 +1,6 @@
 // erf.rs of rten-vecmath, one element at a time. For the crates above.
+#![tactic(auto)]
+
 ghost use Rattle.std.specs.Prelude.{◌≡◌};
 ghost use Rattle.floats.specs.Floats.{abs_of};
 ghost use Rattle.erf.specs.Erf.{ratio_of, poly_of, size_of, erf_of, gelu_of, approx_gelu_of};

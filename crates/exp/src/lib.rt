@@ -1,4 +1,6 @@
 // exp.rs of rten-vecmath, one element at a time. For the crates above.
+#![tactic(auto)]
+
 ghost use Rattle.std.specs.Prelude.{false, cond, ◌≡◌};
 ghost use Rattle.std.specs.Float.Ieee.{lt, le};
 ghost use Rattle.floats.specs.Values.{zero_f};

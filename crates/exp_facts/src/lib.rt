@@ -1,1 +1,2 @@
 // Facts about the definitions of Exp and ReducedRangeExp. No code.
+#![tactic(auto)]

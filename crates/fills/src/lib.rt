@@ -1,4 +1,6 @@
 // A loop for each operator: none chooses inside, so that each runs in lanes.
+#![tactic(auto)]
+
 ghost use Rattle.std.specs.Prelude.{false, map, ◌≡◌, ℕ, ◌<◌, length, get_or};
 ghost use Rattle.std.specs.Float.{nan};
 ghost use Rattle.std.specs.Float.Ieee.{lt};

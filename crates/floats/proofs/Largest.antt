@@ -1,5 +1,5 @@
 -- A finite f32 lies between the least and the largest one, and stays within its size when it is divided by 1 or more. Assumes nothing.
-use Rattle.std.proofs.Common.{◌≡◌, ℕ, zero, suc, ◌+◌, ◌-◌, ◌*◌, ◌^◌, ◌<◌, ◌≤◌, Bool, true, false, T, ℤ, pos, negsuc, sym, ap, ◌∙◌, le_trans, le_of_eq, le_refl, lt_of_le_of_lt, zero-lt-suc, mul_assoc, mul-le-mul, lt_of_mul-lt-mul_right, mul-pos, one-mul, zero-mul, mul-one, arith, pow_pos, pow_mono, pow-add}
+use Rattle.std.proofs.Common.{not, subst, ◌≡◌, ℕ, zero, suc, ◌+◌, ◌-◌, ◌*◌, ◌^◌, ◌<◌, ◌≤◌, Bool, true, false, T, ℤ, pos, negsuc, sym, ap, ◌∙◌, le_trans, le_of_eq, le_refl, lt_of_le_of_lt, zero-lt-suc, mul_assoc, mul-le-mul, lt_of_mul-lt-mul_right, mul-pos, one-mul, zero-mul, mul-one, arith, pow_pos, pow_mono, pow-add}
 use native.Mathlib.Decide.{dec_le}
 use lib.Dec.{eqb-suc-zero}
 use lib.Ieee.{Float, nan, inf, fin, binary32, up, down, unlike, round, neg, div, le, fits, of_bits}
@@ -122,4 +122,8 @@ div_unit (inf true) (fin t n d) G h b = absurd b.0
 div_unit (inf false) (fin t n d) G h b = absurd b.1
 div_unit (fin s m e) (fin t n d) G h b =
     let k = no_sign t n d h in
-    rw (k.0, k.1) (quotient_unit s m e (n - 1) d (rw (k.0, k.1) at b.0) (rw (k.0, k.1) at b.1))
+    let low = subst (λ (z : Bool). T (le (fin (not z) n d) (fin s m e))) k.0 b.0 in
+    let high = subst (λ (z : Bool). T (le (fin s m e) (fin z n d))) k.0 b.1 in
+    rw (k.0, k.1) (quotient_unit s m e (n - 1) d
+    (subst (λ (q : ℕ). T (le (fin true q d) (fin s m e))) k.1 low)
+    (subst (λ (q : ℕ). T (le (fin s m e) (fin false q d))) k.1 high))

@@ -1,5 +1,5 @@
 -- The two zeros, which compare as equal: where an order can't tell the sign of x, and where it doesn't matter. Assumes nothing.
-use Rattle.std.proofs.Common.{◌≡◌, ℕ, ◌*◌, Bool, true, false, cond, ◌&&◌, ◌||◌, T, eqb, ℤ, sym, refl, ap, ◌∙◌, one-mul, zero-add, zero-mul, mul-one, arith, lt-ltb, eqb-true}
+use Rattle.std.proofs.Common.{◌≡◌, ◌*◌, Bool, true, false, cond, ◌&&◌, ◌||◌, eqb, sym, refl, ap, ◌∙◌, one-mul, zero-add, zero-mul, mul-one, arith, lt-ltb, eqb-true}
 use mathlib.Core.Bool.{false≢true}
 use native.Mathlib.Nat.{sub-zero}
 use lib.Ieee.{Float, nan, inf, fin, Format, up, down, sum, add, neg, lt, eq, le, of_bits}

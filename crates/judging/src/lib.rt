@@ -1,4 +1,6 @@
 // A table judged block by block, with nothing held but a few numbers. For the programs above.
+#![tactic(auto)]
+
 ghost use Rattle.std.specs.Prelude.{◌≡◌, true, ◌-◌, ◌<◌, ◌≤◌, length};
 ghost use Rattle.answer.specs.Answer.{is_done, judged, or_else, when_done};
 ghost use Rattle.block.specs.Block.{blocks};
@@ -14,7 +16,7 @@ use table::judge::{block, drop_in, head_ok};
 
 // How many whole blocks were fed; how many the first header calls for, what its form leaves out of a row, its bands and its rows; whether every
 // feeding was a whole block; the first header's answer, and that of all blocks so far.
-#[derive(Drop)]
+#[derive(Clone, Copy)]
 pub struct Judging {
     pub next: usize,
     pub want: usize,

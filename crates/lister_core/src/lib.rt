@@ -1,4 +1,6 @@
 // The lister's lines, put into a lent buffer: the first line, a refusal's, and those of a block. For the programs above.
+#![tactic(auto)]
+
 ghost use Rattle.std.specs.Prelude.{◌≡◌, ℕ, ◌+◌, ◌-◌, ◌*◌, ◌<◌, ◌≤◌, ◌++◌, length};
 ghost use Rattle.lists.specs.Lists.{tab};
 ghost use Rattle.digits.specs.Digits.{decimal_of, Wrote};

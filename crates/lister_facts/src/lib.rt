@@ -1,1 +1,2 @@
 // The theorems about the lister stand in proofs/.
+#![tactic(auto)]

@@ -1,4 +1,6 @@
 // A meter of samples: their count, the overs among them, the sum of their squares, the least and the largest. Each feeding takes the meter and hands the next one back.
+#![tactic(auto)]
+
 ghost use Rattle.std.specs.Prelude.{◌≡◌, ◌≤◌, length};
 ghost use Rattle.lists.specs.Lists.{bit};
 ghost use Rattle.answer.specs.Limits.{element_limit};
@@ -18,7 +20,7 @@ pub const COUNT_LIMIT: u32 = 4294967295;
 // A sample of this size or a larger one is an over.
 const FULL_SCALE: f32 = 1.0;
 
-#[derive(Drop)]
+#[derive(Clone, Copy)]
 pub struct Meter {
     pub count: u32,
     pub overs: u32,
@@ -27,7 +29,7 @@ pub struct Meter {
     pub largest: f32,
 }
 
-#[derive(Drop)]
+#[derive(Clone, Copy)]
 pub enum Fed {
     Next(Meter),
     Refused(Refusal),
@@ -58,7 +60,7 @@ fn over(x: f32) -> u32
 }
 
 // What one pass adds up.
-#[derive(Drop)]
+#[derive(Clone, Copy)]
 struct Sums {
     squares: f32,
     overs: u32,

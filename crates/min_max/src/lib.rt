@@ -1,4 +1,6 @@
 // min_max.rs of rten-vecmath over one slice: the extremes of floats that are no NaN, by ordered folds.
+#![tactic(auto)]
+
 ghost use Rattle.std.specs.Prelude.{true, false, ◌≡◌, ℕ, ◌<◌, length};
 ghost use Rattle.min_max.specs.MinMax.{least_from, largest_from, number_at, first_nan};
 ghost use Rattle.min_max.specs.MinMax.{extremes_told, extreme_told, min_max_told, max_num_told, min_num_told};
@@ -10,21 +12,21 @@ use answer::limits::ELEMENT_LIMIT;
 use answer::{Answer, Refusal};
 use floats::bits::infinity;
 
-#[derive(Drop)]
+#[derive(Clone, Copy)]
 pub struct Extremes {
     pub answer: Answer,
     pub least: f32,
     pub largest: f32,
 }
 
-#[derive(Drop)]
+#[derive(Clone, Copy)]
 pub struct Extreme {
     pub answer: Answer,
     pub value: f32,
 }
 
 // What one pass over a slice sees.
-#[derive(Drop)]
+#[derive(Clone, Copy)]
 pub struct Seen {
     pub least: f32,
     pub largest: f32,

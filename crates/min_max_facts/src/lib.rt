@@ -1,1 +1,2 @@
 // The theorems about the extremes stand in proofs/.
+#![tactic(auto)]

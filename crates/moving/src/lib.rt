@@ -1,4 +1,6 @@
 // Moves a stored table from one form to the other (RULES, Moving), a block of the result at a time.
+#![tactic(auto)]
+
 ghost use Rattle.std.specs.Prelude.{◌≡◌};
 ghost use Rattle.answer.specs.Answer.{told_of};
 ghost use Rattle.moving.specs.Moving.{move_told, move_out, length_in};

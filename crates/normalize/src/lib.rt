@@ -1,5 +1,7 @@
 // normalize.rs: output[i] = (input[i] - pre_scale_bias) * scale * element_scale[i] + bias + element_bias[i].
 // A per-element slice stands beside a yes or no; where it is absent, nothing of it is looked at.
+#![tactic(auto)]
+
 ghost use Rattle.std.specs.Prelude.{◌≡◌, true, ◌<◌, length};
 ghost use Rattle.answer.specs.Answer.{told_of};
 ghost use Rattle.normalize.specs.Normalize.{arm3, norm_of, pick_at, result_at, results, Fitted};
@@ -10,7 +12,7 @@ mod judging;
 use crate::judging::judge;
 use answer::{Answer, Refusal};
 
-#[derive(Drop)]
+#[derive(Clone, Copy)]
 pub struct Settings {
     pub pre_scale_bias: f32,
     pub scale: f32,

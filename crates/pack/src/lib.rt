@@ -1,4 +1,6 @@
 // An answer in one word: the number (RULES, Numbers) in the low 8 bits, the place above.
+#![tactic(auto)]
+
 ghost use Rattle.std.specs.Prelude.{◌≡◌, ◌^◌, ◌<◌};
 ghost use Rattle.answer.specs.Answer.{place_of, told_of};
 ghost use Rattle.pack.specs.Pack.{packed};

@@ -1,4 +1,6 @@
 // So many parts over the bands, in the shares of whole numbers. For the split.
+#![tactic(auto)]
+
 ghost use Rattle.std.specs.Prelude.{◌≡◌, ◌<◌, ◌≤◌, length};
 ghost use Rattle.lists.specs.Lists.{sum_to, Filled};
 ghost use Rattle.parts.specs.Parts.{total, lt1, share, most, key, above_in, gains_over};

@@ -1,4 +1,6 @@
 // quantize.rs, to u8: y = saturate(round(x * inv_scale) + zero_point).
+#![tactic(auto)]
+
 ghost use Rattle.std.specs.Prelude.{◌≡◌, map, length};
 ghost use Rattle.answer.specs.Answer.{told_of};
 ghost use Rattle.quantize.specs.Quantize.{code_steps, clamp_of, code_of, quantize_told, quantize_out};

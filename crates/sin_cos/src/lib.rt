@@ -1,4 +1,6 @@
 // sin_cos.rs below 48,000 in size, one element at a time. Every function is total.
+#![tactic(auto)]
+
 ghost use Rattle.std.specs.Prelude.{◌≡◌};
 ghost use Rattle.sin_cos.specs.SinCos.{min_of, max_of, reduced_of, fold_of, ratio_of, sin_of, cos_of};
 

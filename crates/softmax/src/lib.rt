@@ -1,4 +1,6 @@
 // softmax.rs of rten-vecmath: `Softmax` from one slice into another, and in place.
+#![tactic(auto)]
+
 ghost use Rattle.std.specs.Prelude.{true, false, map, ◌≡◌, ℕ, ◌<◌, length, get_or};
 ghost use Rattle.std.specs.Float.{nan, binary32};
 ghost use Rattle.std.specs.Float.Ieee.{sub, lt};

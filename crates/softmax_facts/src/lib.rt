@@ -1,1 +1,2 @@
 // The theorems about the softmax definition stand in proofs/.
+#![tactic(auto)]

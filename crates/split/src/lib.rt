@@ -1,4 +1,6 @@
 // The split (RULES, Split): 32768 parts over the bands, in the shares of their softmax weights.
+#![tactic(auto)]
+
 ghost use Rattle.std.specs.Prelude.{map, ◌≡◌, ℕ, ◌<◌, ◌≤◌, length, get_or};
 ghost use Rattle.std.specs.Float.{nan};
 ghost use Rattle.answer.specs.Answer.{told_of};

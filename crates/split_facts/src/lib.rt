@@ -1,1 +1,2 @@
 // The theorems about the split stand in proofs/.
+#![tactic(auto)]

@@ -1,4 +1,6 @@
 // sum.rs of rten-vecmath over one slice: five sums of finite floats, each an ordered fold that rounds every step once.
+#![tactic(auto)]
+
 ghost use Rattle.std.specs.Prelude.{true, ◌≡◌, Float};
 ghost use Rattle.std.specs.Float.Ieee.Scale.{finite};
 ghost use Rattle.floats.specs.Floats.{first_not_finite};
@@ -12,7 +14,7 @@ use floats::bits::is_finite;
 use floats::scan::first_unless_shown;
 
 // The last two hold the offset that is taken from each element.
-#[derive(Drop)]
+#[derive(Clone, Copy)]
 pub enum SumOp {
     Sum,
     SumSquare,
@@ -22,13 +24,13 @@ pub enum SumOp {
 }
 
 // A fold, and the first place of its elements that is not finite, or their number.
-#[derive(Drop)]
+#[derive(Clone, Copy)]
 struct Looked {
     value: f32,
     bad: usize,
 }
 
-#[derive(Drop)]
+#[derive(Clone, Copy)]
 pub struct Total {
     pub answer: Answer,
     pub value: f32,

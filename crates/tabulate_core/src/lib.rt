@@ -1,4 +1,6 @@
 // A stored table from levels: the number of bands as a decimal word, rows of little-endian f32 levels, each split into gains.
+#![tactic(auto)]
+
 ghost use Rattle.std.specs.Prelude.{◌≡◌, ◌+◌, ◌*◌, ◌≤◌, ◌<◌, length};
 ghost use Rattle.answer.specs.Limits.{band_limit};
 ghost use Rattle.tabulate_core.specs.Argument.{bands_in};
@@ -15,7 +17,7 @@ use split::split;
 use table::LEAST;
 
 // The number and place (RULES, Numbers), and the bytes of the table, 0 where refused.
-#[derive(Drop)]
+#[derive(Clone, Copy)]
 pub struct Tabulated {
     pub number: u8,
     pub place: usize,
@@ -23,7 +25,7 @@ pub struct Tabulated {
 }
 
 // The first row that the split refuses: its number and its place through the rows; 0 and 0 where none is.
-#[derive(Drop)]
+#[derive(Clone, Copy)]
 struct Stop {
     number: u8,
     place: usize,

@@ -1,4 +1,6 @@
 // tanh.rs of rten-vecmath, one element at a time. For the crates above.
+#![tactic(auto)]
+
 ghost use Rattle.std.specs.Prelude.{◌≡◌, false};
 ghost use Rattle.std.specs.Float.Ieee.{le};
 ghost use Rattle.consts.specs.Consts.{tanh_tiny};

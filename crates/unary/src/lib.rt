@@ -1,4 +1,6 @@
 // The operator as a value, and the call that runs it over a slice.
+#![tactic(auto)]
+
 ghost use Rattle.std.specs.Prelude.{true, map, ◌≡◌, ℕ, ◌<◌, length, get_or};
 ghost use Rattle.std.specs.Float.{nan};
 ghost use Rattle.answer.specs.Answer.{told_of};
@@ -12,7 +14,7 @@ use answer::{Answer, Refusal};
 use consts::LARGE_THRESHOLD;
 use floats::bits::{abs_by_order, is_finite};
 
-#[derive(Drop)]
+#[derive(Clone, Copy)]
 pub enum Op {
     Exp,
     ReducedRangeExp,

@@ -1,0 +1,10 @@
+use Rattle.std.proofs.Common.{◌-◌, ◌≤◌, length}
+use Rattle.lists.proofs.First.{Looked}
+use Rattle.floats.specs.Floats.{finite_at}
+use Rattle.floats.proofs.scan.any_not_finite.Given as goal
+
+abbrev pub invariant-loop-i : goal.invariant-loop-i
+invariant-loop-i l = (l.i ≤ length l.src) × Looked (finite_at l.src) l.bad l.i
+
+abbrev pub decreases-loop-i : goal.decreases-loop-i
+decreases-loop-i l = length l.src - l.i
