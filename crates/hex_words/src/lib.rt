@@ -66,10 +66,8 @@ pub fn places(text: &[u8]) -> usize
 pub fn floats_at(text: &[u8], from: usize, dst: &mut [f32])
     requires { from ≤ 9223372036854775808 }
 {
-    let mut i = 0;
-    while i < dst.len() {
-        dst[i] = from_pattern(word(text, from + i));
-        i += 1;
+    for (i, x) in dst.iter_mut().enumerate() {
+        *x = from_pattern(word(text, from + i));
     }
 }
 
@@ -77,12 +75,10 @@ pub fn floats_at(text: &[u8], from: usize, dst: &mut [f32])
 pub fn same_floats(text: &[u8], from: usize, src: &[f32]) -> bool
     requires { from ≤ 9223372036854775808 }
 {
-    let mut i = 0;
-    while i < src.len() {
-        if pattern(src[i]) != word(text, from + i) {
+    for (i, x) in src.iter().enumerate() {
+        if pattern(*x) != word(text, from + i) {
             return false;
         }
-        i += 1;
     }
     true
 }
