@@ -9,8 +9,8 @@ use floats::bits::{from_pattern, pattern};
 use hex_words::{closing, differs, floats_at, places, word};
 use std::io;
 use std::io::Write;
-use system::read_full;
 use sum::{SumOp, add_up};
+use system::read_full;
 
 fn op_of(code: u32, offset: f32) -> SumOp {
     match code {

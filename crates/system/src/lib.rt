@@ -7,10 +7,9 @@ ghost use Rattle.std.specs.Io.KnownBytes.{Consumes};
 
 use std::env::FillError;
 use std::fs::File;
-use std::io;
 use std::io::{ErrorKind, Read, Write};
 use std::rt::{Env, Files};
-use std::str;
+use std::{io, str};
 
 // Where a program writes: its text, and beside it what it has to tell.
 #[derive(Drop)]

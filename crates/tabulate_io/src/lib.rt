@@ -79,7 +79,5 @@ pub fn run<R: Read, V: Write, W: Write, E: Write>(
     let mut input = input_buffer();
     let mut table = table_buffer();
     let mut line = [0u8; 64];
-    show(
-        from, word, refusals, &mut input, &mut table, &mut line, to,
-    );
+    show(from, word, refusals, &mut input, &mut table, &mut line, to);
 }
