@@ -21,12 +21,10 @@ fn is_code(code: u8, stored: u32) -> bool {
 fn same_codes(text: &[u8], from: usize, codes: &[u8]) -> bool
     requires { from ≤ 4611686018427387904 }
 {
-    let mut i = 0;
-    while i < codes.len() {
-        if !is_code(codes[i], word(text, from + i)) {
+    for (i, code) in codes.iter().enumerate() {
+        if !is_code(*code, word(text, from + i)) {
             return false;
         }
-        i += 1;
     }
     true
 }

@@ -34,8 +34,8 @@ fn op_of(code: u32, alpha: f32) -> Op {
 fn show_words<W: Write>(dst: &[f32; 16385], out: &mut W) -> io::Result<()> {
     // No number's pattern, so that the first word is shown.
     let mut held: u32 = 0xffffffff;
-    for i in 0..16385 {
-        let next = pattern(dst[i]);
+    for (i, x) in dst.iter().enumerate() {
+        let next = pattern(*x);
         if next != held {
             write!(out, " {i}:{next:08x}")?;
             held = next;
