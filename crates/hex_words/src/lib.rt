@@ -2,7 +2,8 @@
 // and the lines that those programs write.
 #![tactic(auto)]
 
-ghost use Rattle.std.specs.Prelude.{◌≤◌, ◌<◌, length};
+ghost use Rattle.std.specs.Prelude.{◌≤◌, ◌<◌, ◌++◌, length, codes, decimal, OnOk};
+ghost use Rattle.std.specs.Io.KnownBytes.{Appends};
 
 use floats::bits::{from_pattern, pattern};
 use std::io;
@@ -84,11 +85,15 @@ pub fn same_floats(text: &[u8], from: usize, src: &[f32]) -> bool
 }
 
 // The line of a case that differs.
-pub fn differs<W: Write>(case: usize, out: &mut W) -> io::Result<()> {
+pub fn differs<W: Write>(case: usize, out: &mut W) -> io::Result<()>
+    ensures { OnOk result (Appends (W.contents out.old) (W.contents out.new) (codes "case " ++ (decimal case ++ codes " differs\n"))) }
+{
     writeln!(out, "case {case} differs")
 }
 
 // The closing line.
-pub fn closing<W: Write>(cases: usize, differ: usize, out: &mut W) -> io::Result<()> {
+pub fn closing<W: Write>(cases: usize, differ: usize, out: &mut W) -> io::Result<()>
+    ensures { OnOk result (Appends (W.contents out.old) (W.contents out.new) (decimal cases ++ (codes " cases, " ++ (decimal differ ++ codes " differ\n")))) }
+{
     writeln!(out, "{cases} cases, {differ} differ")
 }

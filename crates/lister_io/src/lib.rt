@@ -2,7 +2,8 @@
 // standard output.
 #![tactic(auto)]
 
-ghost use Rattle.std.specs.Prelude.{◌≡◌, true, ◌-◌, ◌*◌, ◌<◌, ◌≤◌, length};
+ghost use Rattle.std.specs.Prelude.{◌≡◌, true, ◌-◌, ◌*◌, ◌<◌, ◌≤◌, length, IsTrue};
+ghost use Rattle.std.specs.Io.KnownBytes.{Appends};
 ghost use Rattle.answer.specs.Answer.{is_done, judged};
 ghost use Rattle.answer.specs.Limits.{table_limit, block_room};
 ghost use Rattle.answer.specs.declared.Answer.TheVariants.{Done};
@@ -36,7 +37,9 @@ fn text_buffer() -> [u8; BLOCK_ROOM]
 }
 
 // Whether the text was written.
-fn show<W: Write, E: Write>(text: &[u8], to: &mut Streams<W, E>) -> bool {
+fn show<W: Write, E: Write>(text: &[u8], to: &mut Streams<W, E>) -> bool
+    ensures { IsTrue result → Appends (W.contents to.old.out) (W.contents to.new.out) text.now }
+{
     put(text, b"lister: standard output", to)
 }
 
