@@ -1,0 +1,12 @@
+use Prim.Native.Nat.{◌-◌}
+use lib.Ieee.{nan}
+use lib.ListN.{length}
+use Rattle.lists.proofs.Mapped.{Mapped}
+use Rattle.sin_cos.specs.SinCos.{sin_of}
+use Rattle.fills.proofs.sin.Given as goal
+
+abbrev pub invariant-loop-i : goal.invariant-loop-i
+invariant-loop-i l = Mapped nan nan sin_of l.src l.initial.dst l.dst l.i
+
+abbrev pub decreases-loop-i : goal.decreases-loop-i
+decreases-loop-i l = length l.src - l.i

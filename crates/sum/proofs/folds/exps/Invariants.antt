@@ -1,0 +1,12 @@
+use Prim.Native.Nat.{◌-◌}
+use lib.Ieee.{nan, binary32, sub}
+use lib.ListN.{length}
+use Rattle.lists.proofs.Mapped.{Mapped}
+use Rattle.exp.specs.Exp.{exp_of}
+use Rattle.sum.proofs.folds.exps.Given as goal
+
+abbrev pub invariant-loop-i : goal.invariant-loop-i
+invariant-loop-i l = Mapped nan nan (λ x. exp_of (sub binary32 x l.offset)) l.src l.initial.dst l.dst l.i
+
+abbrev pub decreases-loop-i : goal.decreases-loop-i
+decreases-loop-i l = length l.src - l.i

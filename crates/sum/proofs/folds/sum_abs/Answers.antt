@@ -1,0 +1,11 @@
+use mathlib.Core.Path.{ap, ◌∙◌}
+use lib.Ieee.{binary32, add}
+use Rattle.sum.proofs.Fold.{sum_more, sum_end}
+use borrow.Author.Rules.{rules}
+use Rattle.sum.proofs.folds.sum_abs.Goals as goal
+
+pub loop-i-preserved : goal.loop-i-preserved
+loop-i-preserved c = (search rules, sum_more _ c.args.src.now c.loop-i.i c.loop-i.sum _ c.loop-i-test.true (ap (add binary32 c.loop-i.sum) c.abs_by_order-sum.ensures) ∙ c.loop-i.invariant.1)
+
+pub returns : goal.returns
+returns c = sum_end _ c.args.src.now c.loop-i.i c.loop-i.sum c.loop-i-test.false ∙ c.loop-i.invariant.1
