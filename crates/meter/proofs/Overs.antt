@@ -1,5 +1,5 @@
 -- Overs: by hand, by two comparisons, over joined lists, of nothing, and never more than samples. Assumes nothing.
-use Prim.Native.Nat.{ℕ, ◌+◌, ◌≤◌}
+use Prim.Native.Nat.{◌+◌, ◌≤◌}
 use mathlib.Core.Path.{◌≡◌, refl, sym}
 use mathlib.Core.Bool.{◌||◌}
 use mathlib.Core.List.{List, [], ◌++◌}
