@@ -63,5 +63,7 @@ pub record EachCall : Type 0 where
       (when_zero t.0 t.2 form, when_zero t.0 t.4 bands, when_zero t.0 t.5 rows, when_zero t.0 t.6 held))
   pub mst_table_to_form_1 : (bytes result : List ℕ) → Determined (packed (move_told 0 bytes result)) (move_out 0 bytes result)
   pub mst_table_to_form_2 : (bytes result : List ℕ) → Determined (packed (move_told 1 bytes result)) (move_out 1 bytes result)
-  -- nothing is lent to it
-  pub mst_version : (r s : ℕ) → r ≡ version → s ≡ version → r ≡ s
+
+-- of `mst_version`, to which nothing is lent
+abbrev pub VersionCall : Type 0
+VersionCall = (r s : ℕ) → r ≡ version → s ≡ version → r ≡ s

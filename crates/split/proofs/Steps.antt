@@ -1,7 +1,7 @@
 -- What `steps_of` casts is the definition's whole number. Assumes nothing.
 use mathlib.Core.Path.{◌≡◌, refl, sym, ap, subst}
 use mathlib.Core.Bool.{true, false}
-use Prim.Native.Nat.{ℕ, ◌*◌, ◌≤◌, ◌<◌}
+use Prim.Native.Nat.{ℕ, ◌*◌, ◌≤◌}
 use native.Mathlib.Nat.{mul-one, le_of_eq, le_trans}
 use native.Mathlib.Omega.{arith}
 use lib.Dec.{T, lit<}
