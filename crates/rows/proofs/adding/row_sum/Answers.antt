@@ -8,4 +8,4 @@ pub loop-j-init : goal.loop-j-init
 loop-j-init c = (omega arith, sum_none _, omega arith)
 
 pub loop-j-preserved : goal.loop-j-preserved
-loop-j-preserved c = (omega arith, sum_more _ _ _ _ c.loop-j.invariant.1 refl, omega (arith, c.shared_slice_known-1.given (c.args.at + c.loop-j.j)))
+loop-j-preserved c = (omega arith, sum_more _ _ _ _ c.loop-j.invariant.1 refl, omega (arith, c.type_inv.gains (c.args.at + c.loop-j.j)))

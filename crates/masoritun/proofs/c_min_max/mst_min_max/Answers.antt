@@ -1,0 +1,7 @@
+use mathlib.Core.Path.{ap}
+use Rattle.min_max.proofs.Place.{extremes_place}
+use Rattle.pack.proofs.Packing.{fits_word}
+use Rattle.masoritun.proofs.c_min_max.mst_min_max.Goals as goal
+
+pub pack-requires : goal.pack-requires
+pack-requires c = fits_word c.min_max-extremes.result.answer _ (ap (λ t. t.0) c.min_max-extremes.ensures) (extremes_place c.args.src.now)
