@@ -5,16 +5,16 @@ ghost use Rattle.system.specs.Counts.{IsPrefixLen};
 
 use lister_io::{run, run_file};
 use std::rt::Env;
-use system::{Streams, argument, is_given};
+use system::{Streams, argument_at, is_given};
 
 // The length of the one argument; 0, which names no file, where there are more or it is longer than the buffer.
-fn only_argument<V: Env>(arguments: &V, name: &mut [u8]) -> usize
+fn argument<V: Env>(arguments: &V, name: &mut [u8]) -> usize
     ensures { IsPrefixLen result name.new }
 {
     if is_given(arguments, 2) {
         return 0;
     }
-    argument(arguments, 1, name)
+    argument_at(arguments, 1, name)
 }
 
 fn main(rt: HostRuntime) {
@@ -27,6 +27,6 @@ fn main(rt: HostRuntime) {
         return;
     }
     let mut name = [0u8; 4096];
-    let n = only_argument(&rt, &mut name);
+    let n = argument(&rt, &mut name);
     run_file(&rt, &name[..n], &mut to);
 }

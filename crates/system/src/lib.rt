@@ -73,7 +73,7 @@ pub fn is_given<V: Env>(arguments: &V, place: usize) -> bool {
 }
 
 // Puts the argument at this place at the start of buf and answers its length; 0 where there is none or it is longer than buf.
-pub fn argument<V: Env>(arguments: &V, place: usize, buf: &mut [u8]) -> usize
+pub fn argument_at<V: Env>(arguments: &V, place: usize, buf: &mut [u8]) -> usize
     ensures { IsPrefixLen result buf.new }
 {
     match arguments.arg(place, buf) {

@@ -4,17 +4,17 @@
 ghost use Rattle.system.specs.Counts.{IsPrefixLen};
 
 use std::rt::Env;
-use system::{Streams, argument, is_given};
+use system::{Streams, argument_at, is_given};
 use tabulate_io::run;
 
 // The length of the one argument; 0, which names no bands, where there is not just one or it is longer than the buffer.
-fn only_argument<V: Env>(arguments: &V, word: &mut [u8]) -> usize
+fn argument<V: Env>(arguments: &V, word: &mut [u8]) -> usize
     ensures { IsPrefixLen result word.new }
 {
     if is_given(arguments, 2) {
         return 0;
     }
-    argument(arguments, 1, word)
+    argument_at(arguments, 1, word)
 }
 
 fn main(rt: HostRuntime) {
@@ -23,6 +23,6 @@ fn main(rt: HostRuntime) {
         errors: rt.stderr(),
     };
     let mut word = [0u8; 4096];
-    let n = only_argument(&rt, &mut word);
+    let n = argument(&rt, &mut word);
     run(&mut rt.stdin(), &word[..n], &mut rt.stderr(), &mut to);
 }

@@ -7,7 +7,7 @@ ghost use Rattle.std.specs.Prelude.{◌<◌};
 use std::io;
 use std::io::Write;
 use std::rt::{Env, Files};
-use system::{Streams, argument, is_given, open, tell};
+use system::{Streams, argument_at, is_given, open, tell};
 use tabulate_io::run;
 
 fn name<W: Write>(path: &[u8], word: &[u8], out: &mut W) -> io::Result<()> {
@@ -46,8 +46,8 @@ fn case<R: Files + Env, W: Write, E: Write>(
 {
     let mut path = [0u8; 4096];
     let mut word = [0u8; 4096];
-    let n = argument(rt, place, &mut path);
-    let m = argument(rt, place + 1, &mut word);
+    let n = argument_at(rt, place, &mut path);
+    let m = argument_at(rt, place + 1, &mut word);
     show(rt, &path[..n], &word[..m], refusals, to)
 }
 
