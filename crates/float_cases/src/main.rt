@@ -5,7 +5,8 @@
 use floats::bits::{abs, abs_by_order, from_pattern, is_finite, pattern};
 use floats::round::round_ties_even;
 use floats::word::{add_word, shl_23, sub_word};
-use libc::STDOUT_FILENO;
+use std::io;
+use std::io::Write;
 
 // Zeros, halves and their neighbours, odd and even ties, 2^22 and 2^23 with theirs, the ends of the range, infinities and a NaN.
 const FLOATS: [u32; 48] = [
@@ -21,46 +22,48 @@ const WORDS: [u32; 8] = [
     0x00000000, 0x00000001, 0x0000007f, 0x000001ff, 0x00000200, 0x7fffffff, 0x80000000, 0xffffffff,
 ];
 
-fn word(n: u32) {
-    io::print_hex(STDOUT_FILENO, n as u64, 8);
-    io::write_all(STDOUT_FILENO, b" ");
+fn word<W: Write>(n: u32, out: &mut W) -> io::Result<()> {
+    write!(out, "{n:08x} ")
 }
 
-fn float_line(n: u32) {
+fn float_line<W: Write>(n: u32, out: &mut W) -> io::Result<()> {
     let x = from_pattern(n);
-    word(n);
-    word(pattern(round_ties_even(x)));
-    word(pattern(abs(x)));
-    word(pattern(abs_by_order(x)));
+    word(n, out)?;
+    word(pattern(round_ties_even(x)), out)?;
+    word(pattern(abs(x)), out)?;
+    word(pattern(abs_by_order(x)), out)?;
     if is_finite(x) {
-        io::write_all(STDOUT_FILENO, b"finite\n");
+        writeln!(out, "finite")
     } else {
-        io::write_all(STDOUT_FILENO, b"not finite\n");
+        writeln!(out, "not finite")
     }
 }
 
-fn word_line(a: u32, b: u32) {
-    word(a);
-    word(b);
-    word(add_word(a, b));
-    word(sub_word(a, b));
-    io::print_hex(STDOUT_FILENO, shl_23(a) as u64, 8);
-    io::write_all(STDOUT_FILENO, b"\n");
+fn word_line<W: Write>(a: u32, b: u32, out: &mut W) -> io::Result<()> {
+    word(a, out)?;
+    word(b, out)?;
+    word(add_word(a, b), out)?;
+    word(sub_word(a, b), out)?;
+    let shifted = shl_23(a);
+    writeln!(out, "{shifted:08x}")
 }
 
-fn float_lines() {
+fn float_lines<W: Write>(out: &mut W) -> io::Result<()> {
     for i in 0..48 {
-        float_line(FLOATS[i]);
+        float_line(FLOATS[i], out)?;
     }
+    Ok(())
 }
 
-fn word_lines() {
+fn word_lines<W: Write>(out: &mut W) -> io::Result<()> {
     for i in 0..64 {
-        word_line(WORDS[i / 8], WORDS[i % 8]);
+        word_line(WORDS[i / 8], WORDS[i % 8], out)?;
     }
+    Ok(())
 }
 
-fn main() {
-    float_lines();
-    word_lines();
+fn main(rt: HostRuntime) -> io::Result<()> {
+    let mut out = rt.stdout();
+    float_lines(&mut out)?;
+    word_lines(&mut out)
 }

@@ -2,10 +2,12 @@
 // and the lines that those programs write.
 #![tactic(auto)]
 
-ghost use Rattle.std.specs.Prelude.{◌≤◌, ◌<◌, length};
+ghost use Rattle.std.specs.Prelude.{◌≤◌, ◌<◌, ◌++◌, length, codes, decimal, OnOk};
+ghost use Rattle.std.specs.Io.KnownBytes.{Appends};
 
 use floats::bits::{from_pattern, pattern};
-use libc::STDOUT_FILENO;
+use std::io;
+use std::io::Write;
 
 // The value of a digit; 0 for any other byte.
 fn digit(b: u8) -> u32
@@ -65,10 +67,8 @@ pub fn places(text: &[u8]) -> usize
 pub fn floats_at(text: &[u8], from: usize, dst: &mut [f32])
     requires { from ≤ 9223372036854775808 }
 {
-    let mut i = 0;
-    while i < dst.len() {
-        dst[i] = from_pattern(word(text, from + i));
-        i += 1;
+    for (i, x) in dst.iter_mut().enumerate() {
+        *x = from_pattern(word(text, from + i));
     }
 }
 
@@ -76,27 +76,24 @@ pub fn floats_at(text: &[u8], from: usize, dst: &mut [f32])
 pub fn same_floats(text: &[u8], from: usize, src: &[f32]) -> bool
     requires { from ≤ 9223372036854775808 }
 {
-    let mut i = 0;
-    while i < src.len() {
-        if pattern(src[i]) != word(text, from + i) {
+    for (i, x) in src.iter().enumerate() {
+        if pattern(*x) != word(text, from + i) {
             return false;
         }
-        i += 1;
     }
     true
 }
 
 // The line of a case that differs.
-pub fn differs(case: usize) {
-    io::write_all(STDOUT_FILENO, b"case ");
-    io::print_decimal(STDOUT_FILENO, case as u64);
-    io::write_all(STDOUT_FILENO, b" differs\n");
+pub fn differs<W: Write>(case: usize, out: &mut W) -> io::Result<()>
+    ensures { OnOk result (Appends (W.contents out.old) (W.contents out.new) (codes "case " ++ (decimal case ++ codes " differs\n"))) }
+{
+    writeln!(out, "case {case} differs")
 }
 
 // The closing line.
-pub fn closing(cases: usize, differ: usize) {
-    io::print_decimal(STDOUT_FILENO, cases as u64);
-    io::write_all(STDOUT_FILENO, b" cases, ");
-    io::print_decimal(STDOUT_FILENO, differ as u64);
-    io::write_all(STDOUT_FILENO, b" differ\n");
+pub fn closing<W: Write>(cases: usize, differ: usize, out: &mut W) -> io::Result<()>
+    ensures { OnOk result (Appends (W.contents out.old) (W.contents out.new) (decimal cases ++ (codes " cases, " ++ (decimal differ ++ codes " differ\n")))) }
+{
+    writeln!(out, "{cases} cases, {differ} differ")
 }

@@ -1,27 +1,32 @@
 // Lists the stored table in the file that its argument names, or without one that on standard input: its lines, or the one line of a refusal.
 #![tactic(auto)]
 
-ghost use Rattle.io.specs.Counts.{IsPrefixLen};
+ghost use Rattle.system.specs.Counts.{IsPrefixLen};
 
-use libc::STDIN_FILENO;
 use lister_io::{run, run_file};
+use std::rt::Env;
+use system::{Streams, argument_at, is_given};
 
 // The length of the one argument; 0, which names no file, where there are more or it is longer than the buffer.
-fn argument(name: &mut [u8]) -> usize
+fn argument<V: Env>(arguments: &V, name: &mut [u8]) -> usize
     ensures { IsPrefixLen result name.new }
 {
-    if os::arg_count() != 2 {
+    if is_given(arguments, 2) {
         return 0;
     }
-    os::arg(1, name)
+    argument_at(arguments, 1, name)
 }
 
-fn main() {
-    if os::arg_count() < 2 {
-        run(STDIN_FILENO);
+fn main(rt: HostRuntime) {
+    let mut to = Streams {
+        out: rt.stdout(),
+        errors: rt.stderr(),
+    };
+    if !is_given(&rt, 1) {
+        run(&mut rt.stdin(), &mut to);
         return;
     }
-    let mut name = io::buffer();
-    let n = argument(&mut name);
-    run_file(&name[..n]);
+    let mut name = [0u8; 4096];
+    let n = argument(&rt, &mut name);
+    run_file(&rt, &name[..n], &mut to);
 }

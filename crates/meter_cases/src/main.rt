@@ -9,43 +9,36 @@ ghost use Rattle.std.specs.Prelude.{◌≡◌, ◌≤◌, length};
 use answer::{Answer, number, place};
 use floats::bits::{from_pattern, pattern};
 use hex_words::{floats_at, places, word};
-use libc::{STDIN_FILENO, STDOUT_FILENO};
 use meter::{Fed, Meter};
+use std::io;
+use std::io::Write;
+use system::read_full;
 
-fn put(byte: u8) {
-    let text = [byte];
-    io::write_all(STDOUT_FILENO, &text);
+fn show_float<W: Write>(x: f32, out: &mut W) -> io::Result<()> {
+    let word = pattern(x);
+    write!(out, " {word:08x}")
 }
 
-fn show_float(x: f32) {
-    put(b' ');
-    io::print_hex(STDOUT_FILENO, pattern(x) as u64, 8);
-}
-
-fn show(answer: Answer, m: Meter) {
-    io::print_decimal(STDOUT_FILENO, number(answer) as u64);
-    put(b' ');
-    io::print_decimal(STDOUT_FILENO, place(answer) as u64);
-    put(b' ');
-    io::print_decimal(STDOUT_FILENO, m.count as u64);
-    put(b' ');
-    io::print_decimal(STDOUT_FILENO, m.overs as u64);
-    show_float(m.sum_squares);
-    show_float(m.least);
-    show_float(m.largest);
-    put(b'\n');
+fn show<W: Write>(answer: Answer, m: Meter, out: &mut W) -> io::Result<()> {
+    let (number, place) = (number(answer), place(answer));
+    let (count, overs) = (m.count, m.overs);
+    write!(out, "{number} {place} {count} {overs}")?;
+    show_float(m.sum_squares, out)?;
+    show_float(m.least, out)?;
+    show_float(m.largest, out)?;
+    writeln!(out, "")
 }
 
 // The next meter, or the held one where the feeding is refused; either way a line.
-fn feed(held: Meter, src: &[f32]) -> Meter {
+fn feed<W: Write>(held: Meter, src: &[f32], out: &mut W) -> io::Result<Meter> {
     match held.feed(src) {
         Fed::Next(next) => {
-            show(Answer::Done, next);
-            next
+            show(Answer::Done, next, out)?;
+            Ok(next)
         }
         Fed::Refused(why) => {
-            show(Answer::Refused(why), held);
-            held
+            show(Answer::Refused(why), held, out)?;
+            Ok(held)
         }
     }
 }
@@ -74,27 +67,26 @@ fn samples(text: &[u8], from: usize) -> [f32; 16385]
     out
 }
 
-fn case(text: &[u8], at: usize, held: Meter) -> Meter
+fn case<W: Write>(text: &[u8], at: usize, held: Meter, out: &mut W) -> io::Result<Meter>
     requires { at ≤ 65536 }
 {
     // There is room for 16,385.
     let n = word(text, at + 6) as usize % 16386;
     let src = samples(text, at + 7);
-    feed(meter_at(text, at, held), &src[..n])
+    feed(meter_at(text, at, held), &src[..n], out)
 }
 
-fn run(text: &[u8]) {
+fn run<W: Write>(text: &[u8], out: &mut W) -> io::Result<()> {
     let cases = places(text) / 19;
     let mut held = Meter::new();
     for i in 0..cases {
-        held = case(text, i * 19, held);
+        held = case(text, i * 19, held, out)?;
     }
-    io::print_decimal(STDOUT_FILENO, cases as u64);
-    io::write_all(STDOUT_FILENO, b" cases\n");
+    writeln!(out, "{cases} cases")
 }
 
-fn main() {
-    let mut text = io::large_buffer();
-    let n = io::read_full(STDIN_FILENO, &mut text);
-    run(&text[..n]);
+fn main(rt: HostRuntime) -> io::Result<()> {
+    let mut text = [0u8; 65536];
+    let n = read_full(&mut rt.stdin(), &mut text);
+    run(&text[..n], &mut rt.stdout())
 }

@@ -8,8 +8,12 @@ ghost use Rattle.answer.specs.Limits.{table_limit};
 use answer::limits::TABLE_LIMIT;
 use answer::{Answer, is_done, number, place};
 use block::word::word_at;
-use libc::STDOUT_FILENO;
 use moving::{length_in, to_form_1, to_form_2};
+use std::fs::File;
+use std::io;
+use std::io::Write;
+use std::rt::Files;
+use system::read_full;
 
 fn buffer() -> [u8; TABLE_LIMIT]
     ensures { table_limit ≡ length result }
@@ -24,17 +28,14 @@ fn moved(form: u32, bytes: &[u8], res: &mut [u8]) -> Answer {
     to_form_2(bytes, res)
 }
 
-fn tell(form: u32, bytes: &[u8], res: &mut [u8]) {
+fn tell<W: Write>(form: u32, bytes: &[u8], res: &mut [u8], out: &mut W) -> io::Result<()> {
     let answer = moved(form, bytes, res);
-    io::print_decimal(STDOUT_FILENO, form as u64);
-    io::write_all(STDOUT_FILENO, b" ");
-    io::print_decimal(STDOUT_FILENO, number(answer) as u64);
-    io::write_all(STDOUT_FILENO, b" ");
-    io::print_decimal(STDOUT_FILENO, place(answer) as u64);
-    io::write_all(STDOUT_FILENO, b"\n");
+    let (number, place) = (number(answer), place(answer));
+    writeln!(out, "{form} {number} {place}")?;
     if is_done(answer) {
-        io::write_all(STDOUT_FILENO, res);
+        out.write_all(res)?;
     }
+    Ok(())
 }
 
 fn needed(form: u32, bytes: &[u8]) -> usize {
@@ -48,64 +49,65 @@ fn needed(form: u32, bytes: &[u8]) -> usize {
     )
 }
 
-fn tell_needed(form: u32, bytes: &[u8], res: &mut [u8]) {
+fn tell_needed<W: Write>(form: u32, bytes: &[u8], res: &mut [u8], out: &mut W) -> io::Result<()> {
     let n = needed(form, bytes);
     if n > res.len() {
-        return;
+        return Ok(());
     }
-    tell(form, bytes, &mut res[..n]);
+    tell(form, bytes, &mut res[..n], out)
 }
 
-fn show(form: u32, bytes: &[u8], res: &mut [u8]) {
+fn show<W: Write>(form: u32, bytes: &[u8], res: &mut [u8], out: &mut W) -> io::Result<()> {
     let mut none = [0u8; 1];
-    tell_needed(form, bytes, res);
-    tell(form, bytes, &mut none[..0]);
+    tell_needed(form, bytes, res, out)?;
+    tell(form, bytes, &mut none[..0], out)
 }
 
-fn read_and_show(path: &[u8], bytes: &mut [u8], res: &mut [u8]) {
-    let from = os::open_read(path);
-    if from < 0 {
-        os::fail(path);
-    }
-    io::write_all(STDOUT_FILENO, path);
-    io::write_all(STDOUT_FILENO, b"\n");
-    let n = io::read_full(from, bytes);
-    libc::close(from);
-    show(1, &bytes[..n], res);
-    show(2, &bytes[..n], res);
+fn read_and_show<R: Files + Print>(
+    rt: &R,
+    path: &str,
+    bytes: &mut [u8],
+    res: &mut [u8],
+) -> io::Result<()> {
+    let mut from = File::open(rt, path)?;
+    let mut out = io::writer(rt);
+    writeln!(out, "{path}")?;
+    let n = read_full(&mut from, bytes);
+    show(1, &bytes[..n], res, &mut out)?;
+    show(2, &bytes[..n], res, &mut out)
 }
 
-fn case(path: &[u8]) {
+fn case<R: Files + Print>(rt: &R, path: &str) -> io::Result<()> {
     let mut bytes = buffer();
     let mut result = buffer();
-    read_and_show(path, &mut bytes, &mut result);
+    read_and_show(rt, path, &mut bytes, &mut result)
 }
 
-fn sound() {
-    case(b"one_band");
-    case(b"form_1");
-    case(b"form_2");
-    case(b"last_gain_0");
-    case(b"wide_1");
-    case(b"wide_2");
-    case(b"wide_17");
+fn sound<R: Files + Print>(rt: &R) -> io::Result<()> {
+    case(rt, "one_band")?;
+    case(rt, "form_1")?;
+    case(rt, "form_2")?;
+    case(rt, "last_gain_0")?;
+    case(rt, "wide_1")?;
+    case(rt, "wide_2")?;
+    case(rt, "wide_17")
 }
 
-fn damaged() {
-    case(b"empty");
-    case(b"short");
-    case(b"few");
-    case(b"check");
-    case(b"mixed_1");
-    case(b"mixed_2");
-    case(b"form_3");
-    case(b"one_band_2");
-    case(b"past");
-    case(b"not_whole");
-    case(b"unused");
+fn damaged<R: Files + Print>(rt: &R) -> io::Result<()> {
+    case(rt, "empty")?;
+    case(rt, "short")?;
+    case(rt, "few")?;
+    case(rt, "check")?;
+    case(rt, "mixed_1")?;
+    case(rt, "mixed_2")?;
+    case(rt, "form_3")?;
+    case(rt, "one_band_2")?;
+    case(rt, "past")?;
+    case(rt, "not_whole")?;
+    case(rt, "unused")
 }
 
-fn main() {
-    sound();
-    damaged();
+fn main(rt: HostRuntime) -> io::Result<()> {
+    sound(&rt)?;
+    damaged(&rt)
 }

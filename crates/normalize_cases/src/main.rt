@@ -8,22 +8,23 @@ ghost use Rattle.std.specs.Prelude.{◌≤◌};
 use answer::{Answer, number, place};
 use floats::bits::{from_pattern, pattern};
 use hex_words::{floats_at, places, word};
-use libc::{STDIN_FILENO, STDOUT_FILENO};
 use normalize::{Settings, normalize, normalize_in_place};
+use std::io;
+use std::io::Write;
+use system::read_full;
 
-fn show_word(x: f32) {
-    io::write_all(STDOUT_FILENO, b" ");
-    io::print_hex(STDOUT_FILENO, pattern(x) as u64, 8);
+fn show_word<W: Write>(x: f32, out: &mut W) -> io::Result<()> {
+    let word = pattern(x);
+    write!(out, " {word:08x}")
 }
 
-fn show(answer: Answer, a: f32, b: f32, c: f32) {
-    io::print_decimal(STDOUT_FILENO, number(answer) as u64);
-    io::write_all(STDOUT_FILENO, b" ");
-    io::print_decimal(STDOUT_FILENO, place(answer) as u64);
-    show_word(a);
-    show_word(b);
-    show_word(c);
-    io::write_all(STDOUT_FILENO, b"\n");
+fn show<W: Write>(answer: Answer, a: f32, b: f32, c: f32, out: &mut W) -> io::Result<()> {
+    let (number, place) = (number(answer), place(answer));
+    write!(out, "{number} {place}")?;
+    show_word(a, out)?;
+    show_word(b, out)?;
+    show_word(c, out)?;
+    writeln!(out, "")
 }
 
 fn three(text: &[u8], from: usize) -> [f32; 3]
@@ -44,7 +45,7 @@ fn settings_at(text: &[u8], at: usize) -> Settings
     }
 }
 
-fn case(text: &[u8], at: usize)
+fn case<W: Write>(text: &[u8], at: usize, out: &mut W) -> io::Result<()>
     requires { at ≤ 65536 }
 {
     let settings = settings_at(text, at);
@@ -58,22 +59,23 @@ fn case(text: &[u8], at: usize)
     let answer = normalize(
         settings, has_scale, &scales, has_bias, &biases, &buf, &mut dst,
     );
-    show(answer, dst[0], dst[1], dst[2]);
+    show(answer, dst[0], dst[1], dst[2], out)?;
     let in_place = normalize_in_place(settings, has_scale, &scales, has_bias, &biases, &mut buf);
-    show(in_place, buf[0], buf[1], buf[2]);
+    show(in_place, buf[0], buf[1], buf[2], out)
 }
 
-fn run(text: &[u8]) {
+fn run<W: Write>(text: &[u8], out: &mut W) -> io::Result<()> {
     let end = places(text);
     let mut at = 0;
     while at < end {
-        case(text, at);
+        case(text, at, out)?;
         at += 14;
     }
+    Ok(())
 }
 
-fn main() {
-    let mut text = io::large_buffer();
-    let n = io::read_full(STDIN_FILENO, &mut text);
-    run(&text[..n]);
+fn main(rt: HostRuntime) -> io::Result<()> {
+    let mut text = [0u8; 65536];
+    let n = read_full(&mut rt.stdin(), &mut text);
+    run(&text[..n], &mut rt.stdout())
 }

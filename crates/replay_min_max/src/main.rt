@@ -8,8 +8,10 @@ ghost use Rattle.std.specs.Prelude.{◌≤◌};
 use answer::number;
 use floats::bits::pattern;
 use hex_words::{closing, differs, floats_at, places, word};
-use libc::{STDIN_FILENO, STDOUT_FILENO};
 use min_max::{max_num, min_max, min_num};
+use std::io;
+use std::io::Write;
+use system::read_full;
 
 fn both_agree(src: &[f32], least: u32, largest: u32) -> bool {
     let got = min_max(src);
@@ -100,15 +102,14 @@ fn read_otherwise(text: &[u8], at: usize) -> usize
     0
 }
 
-fn readings(other: usize) {
-    io::print_decimal(STDOUT_FILENO, other as u64);
-    io::write_all(
-        STDOUT_FILENO,
-        b" lists where a reading of the text differs in a zero's sign\n",
-    );
+fn readings<W: Write>(other: usize, out: &mut W) -> io::Result<()> {
+    writeln!(
+        out,
+        "{other} lists where a reading of the text differs in a zero's sign"
+    )
 }
 
-fn replay(text: &[u8]) {
+fn replay<W: Write>(text: &[u8], out: &mut W) -> io::Result<()> {
     let end = places(text);
     let mut at = 0;
     let mut cases = 0;
@@ -118,18 +119,18 @@ fn replay(text: &[u8]) {
         let n = word(text, at) as usize;
         other += read_otherwise(text, at + 1 + n);
         if !agrees(text, at, n) {
-            differs(cases);
+            differs(cases, out)?;
             differ += 1;
         }
         cases += 1;
         at += n + 11;
     }
-    closing(cases, differ);
-    readings(other);
+    closing(cases, differ, out)?;
+    readings(other, out)
 }
 
-fn main() {
-    let mut text = io::large_buffer();
-    let n = io::read_full(STDIN_FILENO, &mut text);
-    replay(&text[..n]);
+fn main(rt: HostRuntime) -> io::Result<()> {
+    let mut text = [0u8; 65536];
+    let n = read_full(&mut rt.stdin(), &mut text);
+    replay(&text[..n], &mut rt.stdout())
 }

@@ -7,8 +7,10 @@ ghost use Rattle.std.specs.Prelude.{◌≤◌};
 use answer::number;
 use floats::bits::from_pattern;
 use hex_words::{closing, differs, floats_at, places, same_floats, word};
-use libc::STDIN_FILENO;
 use normalize::{Settings, normalize, normalize_in_place};
+use std::io;
+use std::io::Write;
+use system::read_full;
 
 fn settings_at(text: &[u8], at: usize) -> Settings
     requires { at ≤ 65536 }
@@ -107,7 +109,7 @@ fn present(text: &[u8], at: usize, n: usize) -> usize
     if word(text, at) != 0 { n } else { 0 }
 }
 
-fn replay(text: &[u8]) {
+fn replay<W: Write>(text: &[u8], out: &mut W) -> io::Result<()> {
     let end = places(text);
     let mut at = 0;
     let mut cases = 0;
@@ -117,17 +119,17 @@ fn replay(text: &[u8]) {
         let scales = present(text, at + 3, n);
         let biases = present(text, at + 4, n);
         if !agrees(text, at, n, scales, biases) {
-            differs(cases);
+            differs(cases, out)?;
             differ += 1;
         }
         cases += 1;
         at += 2 * n + scales + biases + 6;
     }
-    closing(cases, differ);
+    closing(cases, differ, out)
 }
 
-fn main() {
-    let mut text = io::large_buffer();
-    let n = io::read_full(STDIN_FILENO, &mut text);
-    replay(&text[..n]);
+fn main(rt: HostRuntime) -> io::Result<()> {
+    let mut text = [0u8; 65536];
+    let n = read_full(&mut rt.stdin(), &mut text);
+    replay(&text[..n], &mut rt.stdout())
 }

@@ -8,8 +8,10 @@ ghost use Rattle.std.specs.Prelude.{◌≤◌};
 use answer::number;
 use floats::bits::from_pattern;
 use hex_words::{closing, differs, floats_at, places, word};
-use libc::STDIN_FILENO;
 use quantize::quantize;
+use std::io;
+use std::io::Write;
+use system::read_full;
 
 fn is_code(code: u8, stored: u32) -> bool {
     code as u32 == stored
@@ -19,12 +21,10 @@ fn is_code(code: u8, stored: u32) -> bool {
 fn same_codes(text: &[u8], from: usize, codes: &[u8]) -> bool
     requires { from ≤ 4611686018427387904 }
 {
-    let mut i = 0;
-    while i < codes.len() {
-        if !is_code(codes[i], word(text, from + i)) {
+    for (i, code) in codes.iter().enumerate() {
+        if !is_code(*code, word(text, from + i)) {
             return false;
         }
-        i += 1;
     }
     true
 }
@@ -58,7 +58,7 @@ fn agrees(text: &[u8], at: usize, n: usize) -> bool
     codes_agree(text, at, &mut src[..n], &mut dst[..n])
 }
 
-fn replay(text: &[u8]) {
+fn replay<W: Write>(text: &[u8], out: &mut W) -> io::Result<()> {
     let end = places(text);
     let mut at = 0;
     let mut cases = 0;
@@ -66,17 +66,17 @@ fn replay(text: &[u8]) {
     while at < end {
         let n = word(text, at + 2) as usize;
         if !agrees(text, at, n) {
-            differs(cases);
+            differs(cases, out)?;
             differ += 1;
         }
         cases += 1;
         at += 2 * n + 3;
     }
-    closing(cases, differ);
+    closing(cases, differ, out)
 }
 
-fn main() {
-    let mut text = io::large_buffer();
-    let n = io::read_full(STDIN_FILENO, &mut text);
-    replay(&text[..n]);
+fn main(rt: HostRuntime) -> io::Result<()> {
+    let mut text = [0u8; 65536];
+    let n = read_full(&mut rt.stdin(), &mut text);
+    replay(&text[..n], &mut rt.stdout())
 }

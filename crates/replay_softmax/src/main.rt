@@ -6,8 +6,10 @@ ghost use Rattle.std.specs.Prelude.{◌≤◌};
 
 use answer::number;
 use hex_words::{closing, differs, floats_at, places, same_floats, word};
-use libc::STDIN_FILENO;
 use softmax::{softmax, softmax_in_place};
+use std::io;
+use std::io::Write;
+use system::read_full;
 
 // Whether both calls give the stored outputs of the case at word `at`; buf and dst are the room for its elements.
 fn same_outputs(text: &[u8], at: usize, buf: &mut [f32], dst: &mut [f32]) -> bool
@@ -41,7 +43,7 @@ fn agrees(text: &[u8], at: usize, n: usize) -> bool
     same_outputs(text, at, &mut buf[..n], &mut dst[..n])
 }
 
-fn replay(text: &[u8]) {
+fn replay<W: Write>(text: &[u8], out: &mut W) -> io::Result<()> {
     let end = places(text);
     let mut at = 0;
     let mut cases = 0;
@@ -49,17 +51,17 @@ fn replay(text: &[u8]) {
     while at < end {
         let n = word(text, at + 1) as usize;
         if !agrees(text, at, n) {
-            differs(cases);
+            differs(cases, out)?;
             differ += 1;
         }
         cases += 1;
         at += 2 * n + 2;
     }
-    closing(cases, differ);
+    closing(cases, differ, out)
 }
 
-fn main() {
-    let mut text = io::large_buffer();
-    let n = io::read_full(STDIN_FILENO, &mut text);
-    replay(&text[..n]);
+fn main(rt: HostRuntime) -> io::Result<()> {
+    let mut text = [0u8; 65536];
+    let n = read_full(&mut rt.stdin(), &mut text);
+    replay(&text[..n], &mut rt.stdout())
 }

@@ -7,8 +7,10 @@ ghost use Rattle.std.specs.Prelude.{◌≤◌};
 use answer::number;
 use floats::bits::{from_pattern, pattern};
 use hex_words::{closing, differs, floats_at, places, word};
-use libc::STDIN_FILENO;
+use std::io;
+use std::io::Write;
 use sum::{SumOp, add_up};
+use system::read_full;
 
 fn op_of(code: u32, offset: f32) -> SumOp {
     match code {
@@ -46,7 +48,7 @@ fn agrees(text: &[u8], at: usize, n: usize) -> bool
     same_sum(text, at, &mut src[..n])
 }
 
-fn replay(text: &[u8]) {
+fn replay<W: Write>(text: &[u8], out: &mut W) -> io::Result<()> {
     let end = places(text);
     let mut at = 0;
     let mut cases = 0;
@@ -54,17 +56,17 @@ fn replay(text: &[u8]) {
     while at < end {
         let n = word(text, at + 2) as usize;
         if !agrees(text, at, n) {
-            differs(cases);
+            differs(cases, out)?;
             differ += 1;
         }
         cases += 1;
         at += n + 4;
     }
-    closing(cases, differ);
+    closing(cases, differ, out)
 }
 
-fn main() {
-    let mut text = io::large_buffer();
-    let n = io::read_full(STDIN_FILENO, &mut text);
-    replay(&text[..n]);
+fn main(rt: HostRuntime) -> io::Result<()> {
+    let mut text = [0u8; 65536];
+    let n = read_full(&mut rt.stdin(), &mut text);
+    replay(&text[..n], &mut rt.stdout())
 }

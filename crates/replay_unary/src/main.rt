@@ -6,7 +6,9 @@
 use answer::number;
 use floats::bits::{from_pattern, pattern};
 use hex_words::{count, word};
-use libc::{STDIN_FILENO, STDOUT_FILENO};
+use std::io;
+use std::io::Write;
+use system::read_full;
 use unary::{Op, apply};
 
 fn op_of(code: u32, alpha: f32) -> Op {
@@ -37,18 +39,12 @@ fn agrees(code: u32, alpha: u32, x: u32, y: u32) -> bool {
     }
 }
 
-fn show(code: u32, alpha: u32, x: u32) {
-    io::write_all(STDOUT_FILENO, b"differs ");
-    io::print_hex(STDOUT_FILENO, code as u64, 8);
-    io::write_all(STDOUT_FILENO, b" ");
-    io::print_hex(STDOUT_FILENO, alpha as u64, 8);
-    io::write_all(STDOUT_FILENO, b" ");
-    io::print_hex(STDOUT_FILENO, x as u64, 8);
-    io::write_all(STDOUT_FILENO, b"\n");
+fn show<W: Write>(code: u32, alpha: u32, x: u32, out: &mut W) -> io::Result<()> {
+    writeln!(out, "differs {code:08x} {alpha:08x} {x:08x}")
 }
 
 // How many of the cases differ; each is shown.
-fn replay(text: &[u8]) -> usize {
+fn replay<W: Write>(text: &[u8], out: &mut W) -> io::Result<usize> {
     let cases = count(text) / 4;
     let mut differ = 0;
     for i in 0..cases {
@@ -56,19 +52,18 @@ fn replay(text: &[u8]) -> usize {
         let alpha = word(text, i * 4 + 1);
         let x = word(text, i * 4 + 2);
         if !agrees(code, alpha, x, word(text, i * 4 + 3)) {
-            show(code, alpha, x);
+            show(code, alpha, x, out)?;
             differ += 1;
         }
     }
-    differ
+    Ok(differ)
 }
 
-fn main() {
-    let mut text = io::large_buffer();
-    let n = io::read_full(STDIN_FILENO, &mut text);
-    let differ = replay(&text[..n]);
-    io::print_decimal(STDOUT_FILENO, (count(&text[..n]) / 4) as u64);
-    io::write_all(STDOUT_FILENO, b" answers, ");
-    io::print_decimal(STDOUT_FILENO, differ as u64);
-    io::write_all(STDOUT_FILENO, b" differ\n");
+fn main(rt: HostRuntime) -> io::Result<()> {
+    let mut out = rt.stdout();
+    let mut text = [0u8; 65536];
+    let n = read_full(&mut rt.stdin(), &mut text);
+    let differ = replay(&text[..n], &mut out)?;
+    let answers = count(&text[..n]) / 4;
+    writeln!(out, "{answers} answers, {differ} differ")
 }

@@ -4,43 +4,71 @@
 
 ghost use Rattle.std.specs.Prelude.{◌<◌};
 
-use libc::STDOUT_FILENO;
+use std::io;
+use std::io::Write;
+use std::rt::{Env, Files};
+use system::{Streams, argument_at, is_given, open, tell};
 use tabulate_io::run;
 
-fn put(byte: u8) {
-    let text = [byte];
-    io::write_all(STDOUT_FILENO, &text);
+fn name<W: Write>(path: &[u8], word: &[u8], out: &mut W) -> io::Result<()> {
+    out.write_all(path)?;
+    out.write_all(b" ")?;
+    out.write_all(word)?;
+    out.write_all(b"\n")
 }
 
-fn show(path: &[u8], word: &[u8]) {
-    let from = os::open_read(path);
-    if from < 0 {
-        os::fail(path);
-        return;
+// The refusals go where the table goes.
+fn show<F: Files, W: Write, E: Write>(
+    files: &F,
+    path: &[u8],
+    word: &[u8],
+    refusals: &mut W,
+    to: &mut Streams<W, E>,
+) -> io::Result<()> {
+    match open(files, path) {
+        Ok(file) => {
+            let mut from = file;
+            name(path, word, &mut to.out)?;
+            run(&mut from, word, refusals, to);
+        }
+        Err(why) => tell(path, &why, &mut to.errors),
     }
-    io::write_all(STDOUT_FILENO, path);
-    put(b' ');
-    io::write_all(STDOUT_FILENO, word);
-    put(b'\n');
-    run(from, word, STDOUT_FILENO);
-    libc::close(from);
+    Ok(())
 }
 
-fn case(i: usize)
-    requires { i < 18446744073709551615 }
+fn case<R: Files + Env, W: Write, E: Write>(
+    rt: &R,
+    place: usize,
+    refusals: &mut W,
+    to: &mut Streams<W, E>,
+) -> io::Result<()>
+    requires { place < 18446744073709551615 }
 {
-    let mut path = io::buffer();
-    let mut word = io::buffer();
-    let n = os::arg(i, &mut path);
-    let m = os::arg(i + 1, &mut word);
-    show(&path[..n], &word[..m]);
+    let mut path = [0u8; 4096];
+    let mut word = [0u8; 4096];
+    let n = argument_at(rt, place, &mut path);
+    let m = argument_at(rt, place + 1, &mut word);
+    show(rt, &path[..n], &word[..m], refusals, to)
 }
 
-fn main() {
-    let cases = os::arg_count() / 2;
-    for i in 0..cases {
-        case(i * 2 + 1);
+// How many arguments there are, the program's name too.
+fn arg_count<V: Env>(arguments: &V) -> usize {
+    for place in 0..usize::MAX {
+        if !is_given(arguments, place) {
+            return place;
+        }
     }
-    io::print_decimal(STDOUT_FILENO, cases as u64);
-    io::write_all(STDOUT_FILENO, b" cases\n");
+    usize::MAX
+}
+
+fn main(rt: HostRuntime) -> io::Result<()> {
+    let mut to = Streams {
+        out: rt.stdout(),
+        errors: rt.stderr(),
+    };
+    let cases = arg_count(&rt) / 2;
+    for i in 0..cases {
+        case(&rt, i * 2 + 1, &mut rt.stdout(), &mut to)?;
+    }
+    writeln!(to.out, "{cases} cases")
 }

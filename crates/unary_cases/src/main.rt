@@ -9,7 +9,9 @@ ghost use Rattle.std.specs.Prelude.{◌≡◌, ◌≤◌, length};
 use answer::{number, place};
 use floats::bits::{from_pattern, pattern};
 use hex_words::{floats_at, places, word};
-use libc::{STDIN_FILENO, STDOUT_FILENO};
+use std::io;
+use std::io::Write;
+use system::read_full;
 use unary::{Op, apply};
 
 fn op_of(code: u32, alpha: f32) -> Op {
@@ -29,25 +31,17 @@ fn op_of(code: u32, alpha: f32) -> Op {
     }
 }
 
-fn put(byte: u8) {
-    let text = [byte];
-    io::write_all(STDOUT_FILENO, &text);
-}
-
-fn show_words(dst: &[f32; 16385]) {
+fn show_words<W: Write>(dst: &[f32; 16385], out: &mut W) -> io::Result<()> {
     // No number's pattern, so that the first word is shown.
     let mut held: u32 = 0xffffffff;
-    for i in 0..16385 {
-        let next = pattern(dst[i]);
+    for (i, x) in dst.iter().enumerate() {
+        let next = pattern(*x);
         if next != held {
-            put(b' ');
-            io::print_decimal(STDOUT_FILENO, i as u64);
-            put(b':');
-            io::print_hex(STDOUT_FILENO, next as u64, 8);
+            write!(out, " {i}:{next:08x}")?;
             held = next;
         }
     }
-    put(b'\n');
+    writeln!(out, "")
 }
 
 fn source(text: &[u8], from: usize) -> [f32; 16385]
@@ -59,7 +53,7 @@ fn source(text: &[u8], from: usize) -> [f32; 16385]
     src
 }
 
-fn case(text: &[u8], at: usize)
+fn case<W: Write>(text: &[u8], at: usize, out: &mut W) -> io::Result<()>
     requires { at ≤ 65536 }
 {
     let op = op_of(word(text, at), from_pattern(word(text, at + 1)));
@@ -69,23 +63,21 @@ fn case(text: &[u8], at: usize)
     let src = source(text, at + 4);
     let mut dst = [7.0f32; 16385];
     let answer = apply(op, &src[..n], &mut dst[..m]);
-    io::print_decimal(STDOUT_FILENO, number(answer) as u64);
-    put(b' ');
-    io::print_decimal(STDOUT_FILENO, place(answer) as u64);
-    show_words(&dst);
+    let (number, place) = (number(answer), place(answer));
+    write!(out, "{number} {place}")?;
+    show_words(&dst, out)
 }
 
-fn run(text: &[u8]) {
+fn run<W: Write>(text: &[u8], out: &mut W) -> io::Result<()> {
     let cases = places(text) / 7;
     for i in 0..cases {
-        case(text, i * 7);
+        case(text, i * 7, out)?;
     }
-    io::print_decimal(STDOUT_FILENO, cases as u64);
-    io::write_all(STDOUT_FILENO, b" cases\n");
+    writeln!(out, "{cases} cases")
 }
 
-fn main() {
-    let mut text = io::large_buffer();
-    let n = io::read_full(STDIN_FILENO, &mut text);
-    run(&text[..n]);
+fn main(rt: HostRuntime) -> io::Result<()> {
+    let mut text = [0u8; 65536];
+    let n = read_full(&mut rt.stdin(), &mut text);
+    run(&text[..n], &mut rt.stdout())
 }
