@@ -184,7 +184,7 @@ def flushed(v):
     return Fraction(0) if v < Fraction(2) ** -126 else v
 
 
-def ftz():
+def guarded_lines():
     plain = " ".join(hexes(map(pattern, small_weights())))
     yield "as the program starts: " + plain
     yield "FTZ: " + " ".join(hexes(pattern(flushed(w)) for w in small_weights()))
@@ -192,7 +192,16 @@ def ftz():
     # DAZ: the small exponential counts as zero when it is scaled. Rounding up: 1 plus it is above 1, so the first weight is below 1.
     for host in "FTZ", "DAZ", "FTZ and DAZ", "rounding up":
         yield f"{host}: other bits, with the guard the same bits"
+
+
+def ftz():
+    yield from guarded_lines()
     # FTZ, rounding up and DAZ with every exception unmasked; all masked and nothing else; the first again
+    yield "control word of the host c040, under the guard 1f80, after it c040"
+
+
+def ftz_aarch64():
+    yield from guarded_lines()
     yield "control word of the host: another, under the guard: plain, after it: the host's"
 
 
@@ -206,6 +215,6 @@ def callback():
     yield "refused: count 4, flushing as the host set it: yes"
 
 
-for example in calls, small, refusals, split_table, flash, null_test, joining, overs, peaks, ftz, callback:
+for example in calls, small, refusals, split_table, flash, null_test, joining, overs, peaks, ftz, ftz_aarch64, callback:
     with open(f"examples/expected/{example.__name__}.txt", "w", encoding="ascii") as file:
         file.writelines(text + "\n" for text in example())

@@ -51,7 +51,12 @@ int main(void) {
     mst_guard_leave(guard);
     const unsigned after = control();
     set_control(PLAIN);
+#ifdef __x86_64__
+    printf("control word of the host %04x, under the guard %04x, after it %04x\n", host, inside, after);
+#else
+    /* which traps the processor has decides the digits */
     printf("control word of the host: %s, under the guard: %s, after it: %s\n", host == PLAIN ? "plain" : "another",
            inside == PLAIN ? "plain" : "another", after == host ? "the host's" : "another");
+#endif
     return 0;
 }

@@ -11,11 +11,11 @@ use Rattle.normalize.specs.Normalize.{in_place_told, in_place_out, normalize_tol
 
 -- a is the answer and l what is left of the lent slice; b and m likewise
 module _ (st : Settings) (hs : Bool) (es : List Float) (hb : Bool) (eb s : List Float) (a b : Answer) (l m : List Float) where
-  pub in-place-determined :
+  pub in_place_determined :
       Outcome (in_place_told st hs es hb eb s) (in_place_out st hs es hb eb s) a l
       → Outcome (in_place_told st hs es hb eb s) (in_place_out st hs es hb eb s) b m
       → (a ≡ b) × (l ≡ m)
-  in-place-determined x y = one_outcome x y
+  in_place_determined x y = one_outcome x y
 
   pub normalize_determined : (d : List Float)
       → Outcome (normalize_told st hs es hb eb s d) (normalize_out st hs es hb eb s d) a l

@@ -9,17 +9,17 @@ use Rattle.lists.specs.Lists.{sum_to, tab}
 use Rattle.lists.proofs.Sum.{sum_same, sum_const}
 use Rattle.lists.proofs.Tab.{tab_same}
 use Rattle.parts.specs.Parts.{at, total, lt1, share, remainder, left, ahead, rank, gain, gains_over}
-use Rattle.parts.proofs.Bits.{by-lt, lt1_yes, lt1_no}
+use Rattle.parts.proofs.Bits.{by_lt, lt1_yes, lt1_no}
 use Rattle.parts.proofs.Order.{ahead_is}
 
 sum_below : (n i : ℕ) → sum_to (λ j. lt1 j i) n ≡ min n i
 unfolding sum_to
 sum_below zero i = omega arith
-sum_below (suc n) i = by-lt n i (λ l e. omega (arith, sum_below n i)) (λ l e. omega (arith, sum_below n i))
+sum_below (suc n) i = by_lt n i (λ l e. omega (arith, sum_below n i)) (λ l e. omega (arith, sum_below n i))
 
 -- of equal remainders the lower band is ahead
 ahead_same : (r i j : ℕ) → ahead r i r j ≡ lt1 j i
-ahead_same r i j = ahead_is r i r j ∙ by-lt j i
+ahead_same r i j = ahead_is r i r j ∙ by_lt j i
     (λ l e. lt1_yes {a = r} {b = r + lt1 j i} (omega arith) ∙ sym e)
     (λ l e. lt1_no {a = r} {b = r + lt1 j i} (omega arith) ∙ sym e)
 

@@ -11,13 +11,13 @@ use borrow.Author.Tests.{lt-ltb, le-ltb, eq-eqb, ne_eqb}
 use Rattle.lists.specs.Lists.{sum_to}
 use Rattle.lists.proofs.Sum.{sum_same, sum_le, sum_lt, sum_bound, sum_ones, sum_one}
 use Rattle.parts.specs.Parts.{lt1, ahead}
-use Rattle.parts.proofs.Bits.{by-lt, lt1_yes, lt1_no, lt1_small, lt1_mono}
+use Rattle.parts.proofs.Bits.{by_lt, lt1_yes, lt1_no, lt1_small, lt1_mono}
 
 -- a band is ahead where its remainder, one higher for a lower band, is the larger
 pub ahead_is : (ρ m s j : ℕ) → ahead ρ m s j ≡ lt1 ρ (s + lt1 j m)
 unfolding lt1 ahead
 ahead_is ρ m s j =
-    by-lt ρ s
+    by_lt ρ s
     (λ p e. simp (lt-ltb ρ s p) (sym (lt1_yes {a = ρ} {b = s + lt1 j m} (omega arith))))
     (λ p e. ⊎_elim
     (λ (q : s ≡ ρ). simp (le-ltb ρ s p, eq-eqb ρ s (sym q)) (same q))
@@ -25,7 +25,7 @@ ahead_is ρ m s j =
     (eq-or-lt_of_le p))
   where
     same : s ≡ ρ → lt1 j m ≡ lt1 ρ (s + lt1 j m)
-    same q = by-lt j m
+    same q = by_lt j m
         (λ l e. e ∙ sym (lt1_yes {a = ρ} {b = s + lt1 j m} (omega arith)))
         (λ l e. e ∙ sym (lt1_no {a = ρ} {b = s + lt1 j m} (omega arith)))
 
@@ -44,7 +44,7 @@ module _ (n : ℕ) (r : ℕ → ℕ) where
       (λ j q. lt1_mono ρ (r j + lt1 j (suc m)) ρ (r j + lt1 j m) (omega (arith, tests j q)))
     where
       tests : (j : ℕ) → (j ≡ m → ⊥) → lt1 j (suc m) ≤ lt1 j m
-      tests j q = by-lt j m (λ l e. omega (arith, lt1_small j (suc m))) (λ l e. omega (arith, lt1_no {a = j} {b = suc m} (omega arith)))
+      tests j q = by_lt j m (λ l e. omega (arith, lt1_small j (suc m))) (λ l e. omega (arith, lt1_no {a = j} {b = suc m} (omega arith)))
 
   count_wrap : (ρ : ℕ) → count ρ 0 ≤ count (suc ρ) n
   unfolding count
@@ -86,7 +86,7 @@ module _ (n : ℕ) (r : ℕ → ℕ) where
   -- a band ahead of the place has fewer bands ahead of it than the place has, and any other at least as many
   first : (ρ m i : ℕ) → i < n → lt1 (rank_of i) (count ρ m) ≡ ahead_of ρ m i
   unfolding count
-  first ρ m i b = by-lt ρ (r i + lt1 i m)
+  first ρ m i b = by_lt ρ (r i + lt1 i m)
       (λ p e. lt1_yes {a = rank_of i} {b = count ρ m}
       (sum_lt (ahead_of (r i) i) (ahead_of ρ m) n i b (omega (arith, self, e)) (λ j l. fewer p j))
       ∙ sym e)
@@ -97,13 +97,13 @@ module _ (n : ℕ) (r : ℕ → ℕ) where
 
       fewer : ρ < r i + lt1 i m → (j : ℕ) → ahead_of (r i) i j ≤ ahead_of ρ m j
       fewer p j = lt1_mono (r i) (r j + lt1 j i) ρ (r j + lt1 j m)
-          (by-lt i m
+          (by_lt i m
           (λ l e. omega (arith, lt1_mono j i j m (omega arith)))
           (λ l e. omega (arith, lt1_small j i)))
 
       more : r i + lt1 i m ≤ ρ → (j : ℕ) → ahead_of ρ m j ≤ ahead_of (r i) i j
       more p j = lt1_mono ρ (r j + lt1 j m) (r i) (r j + lt1 j i)
-          (by-lt i m
+          (by_lt i m
           (λ l e. omega (arith, lt1_small j m))
           (λ l e. omega (arith, lt1_mono j m j i (omega arith))))
 
@@ -126,7 +126,7 @@ threshold n r T L h fits = go (find n r T L fits T (omega arith) (omega (arith, 
       ρ = p.0;
       small = p.2;
       all = sum_same _ (ahead_of n r p.0 p.1) n (λ i l. is i l) ∙ p.3;
-      each = λ i l. by-lt p.0 (r i + lt1 i p.1)
+      each = λ i l. by_lt p.0 (r i + lt1 i p.1)
           (λ q e. inl (is i l ∙ e, omega (arith, lt1_small i p.1)))
           (λ q e. inr (is i l ∙ e, omega arith));
     }

@@ -8,7 +8,7 @@ use lib.ListN.{length}
 use Rattle.lists.specs.Lists.{sum_to}
 use Rattle.lists.proofs.Sum.{sum_same, sum_term}
 use Rattle.parts.specs.Parts.{at, total, lt1, share, remainder, left, ahead, rank, gain, most, key, above_in}
-use Rattle.parts.proofs.Bits.{by-lt, lt1_same}
+use Rattle.parts.proofs.Bits.{by_lt, lt1_same}
 use Rattle.parts.proofs.Order.{ahead_is}
 
 balance : (n c N : ℕ) (q r a : ℕ → ℕ) → ((i : ℕ) → c * q i + r i ≡ N * a i) → c * sum_to q n + sum_to r n ≡ N * sum_to a n
@@ -40,8 +40,8 @@ product_small h l = mul-le-mul {n₂ = 65535} {m₂ = 4294967296} (omega arith) 
 key_ahead : (r i s j : ℕ) → i < most → j < most → lt1 (most * r + (most - 1 - i)) (most * s + (most - 1 - j)) ≡ ahead r i s j
 key_ahead r i s j l m =
     lt1_same (most * r + (most - 1 - i)) (most * s + (most - 1 - j)) r (s + lt1 j i)
-    (λ p. by-lt j i (λ q e. omega arith) (λ q e. omega arith))
-    (λ p. by-lt j i (λ q e. omega arith) (λ q e. omega arith))
+    (λ p. by_lt j i (λ q e. omega arith) (λ q e. omega arith))
+    (λ p. by_lt j i (λ q e. omega arith) (λ q e. omega arith))
     ∙ sym (ahead_is r i s j)
 
 -- the rank, by a list that holds the keys

@@ -8,7 +8,7 @@ use lib.ListN.{length}
 use Rattle.lists.specs.Lists.{sum_to}
 use Rattle.lists.proofs.Sum.{sum_le, sum_times}
 use Rattle.parts.specs.Parts.{at, total, lt1, share, remainder, left, ahead, rank, gain}
-use Rattle.parts.proofs.Bits.{by-lt, lt1_no, lt1_mono}
+use Rattle.parts.proofs.Bits.{by_lt, lt1_no, lt1_mono}
 use Rattle.parts.proofs.Shares.{split_at, split_all, shares_fit}
 use Rattle.parts.proofs.Order.{ahead_is}
 
@@ -44,7 +44,7 @@ module _ (N : ℕ) (a : List ℕ) (some : 0 < total a) (i : ℕ) (none : at a i 
   unfolding left
   enough =
       let b = sum_le (remainder N a) (λ j. total a * more j) (length a)
-      (λ j l. by-lt 0 (remainder N a j)
+      (λ j l. by_lt 0 (remainder N a j)
       (λ p e. omega (arith, mod-lt (N * at a j) some, ap (λ x. total a * x) e))
       (λ p e. omega arith)) in
       let e : sum_to (share N a) (length a) + left N a ≡ N = omega (arith, shares_fit N a some) in
