@@ -208,6 +208,20 @@ fn list_again<S: Read + Seek, W: Write, E: Write>(
     show_again(second, j.drop, j.bands, j.rows, j.want, block, text, to);
 }
 
+fn list_twice<R: Read, S: Read + Seek, W: Write, E: Write>(
+    first: &mut R,
+    second: &mut S,
+    none: &mut [u8],
+    block: &mut [u8],
+    text: &mut [u8],
+    to: &mut Streams<W, E>,
+)
+    requires { (length block.old ≡ 512) × (block_room ≤ length text.old) }
+{
+    let j = judge_input(first, none, &mut to.errors);
+    list_again(j, second, block, text, to);
+}
+
 // Lists the table that the reader gives, which is read once: no more of it is held than the largest table has.
 pub fn run<R: Read, W: Write, E: Write>(from: &mut R, to: &mut Streams<W, E>) {
     let mut held = held_buffer();
@@ -224,8 +238,7 @@ pub fn run_twice<R: Read, S: Read + Seek, W: Write, E: Write>(
     let mut none = [0u8; 1];
     let mut block = [0u8; 512];
     let mut text = text_buffer();
-    let j = judge_input(first, &mut none, &mut to.errors);
-    list_again(j, second, &mut block, &mut text, to);
+    list_twice(first, second, &mut none, &mut block, &mut text, to);
 }
 
 // The same where one file gives both readings.
