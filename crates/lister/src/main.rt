@@ -1,7 +1,7 @@
 // Lists the stored table in the file that its argument names, or without one that on standard input: its lines, or the one line of a refusal.
 #![tactic(auto)]
 
-ghost use Rattle.system.specs.Counts.{IsPrefixLen};
+ghost use Rattle.io.specs.Counts.{IsPrefixLen};
 
 use lister_io::{run, run_file};
 use std::rt::Env;

@@ -2,26 +2,25 @@
 // standard output.
 #![tactic(auto)]
 
-ghost use Rattle.std.specs.Prelude.{◌≡◌, true, ◌-◌, ◌*◌, ◌<◌, ◌≤◌, length, IsTrue};
+ghost use Rattle.std.specs.Prelude.{◌≡◌, ◌-◌, ◌*◌, ◌<◌, ◌≤◌, length, IsTrue};
 ghost use Rattle.std.specs.Io.KnownBytes.{Appends};
-ghost use Rattle.answer.specs.Answer.{is_done, judged};
 ghost use Rattle.answer.specs.Limits.{table_limit, block_room};
-ghost use Rattle.answer.specs.declared.Answer.TheVariants.{Done};
 ghost use Rattle.block.specs.Block.{blocks};
-ghost use Rattle.block.specs.Read.{bytes_from, block_tests_by};
 ghost use Rattle.block.specs.Asked.{Stores};
-ghost use Rattle.table.specs.Release.{form};
 
+mod again;
+
+use again::{list_again, list_twice};
 use answer::limits::{BLOCK_ROOM, TABLE_LIMIT};
 use answer::{Answer, Refusal, is_done, number, place};
 use judged_input::judge_input;
-use judging::{Judging, finish};
+use judging::finish;
 use lister_core::{put_block, put_head, put_refused};
 use output::put;
 use std::io;
 use std::io::{Read, Seek, SeekFrom, Write};
 use std::rt::Files;
-use system::{Streams, open, read_full, tell};
+use system::{Streams, open, tell};
 
 // The largest table.
 fn held_buffer() -> [u8; TABLE_LIMIT]
@@ -127,99 +126,9 @@ fn list_held<R: Read, W: Write, E: Write>(
     show_held(j.drop, j.bands, j.rows, j.want, held, text, to);
 }
 
-// The next block, judged as block k; 9 where the reader has no whole one.
-fn next_block<R: Read>(
-    from: &mut R,
-    drop: usize,
-    bands: usize,
-    rows: usize,
-    k: usize,
-    block: &mut [u8],
-) -> Answer
-    requires { (length block.old ≡ 512) × (drop ≤ 1) }
-    ensures { is_done result ≡ true → Done ≡ judged (block_tests_by (form drop) bands rows (bytes_from block.new 0) k) }
-{
-    if read_full(from, block) != 512 {
-        return Answer::Refused(Refusal::StoredLength);
-    }
-    table::judge::block(block, 0, k, drop, bands, rows)
-}
-
-// Block k did not pass this time: the one line of its refusal where nothing was written yet, else a line on standard error.
-fn stopped<W: Write, E: Write>(a: Answer, k: usize, text: &mut [u8], to: &mut Streams<W, E>)
-    requires { block_room ≤ length text.old }
-{
-    if k == 0 {
-        refuse(a, text, to);
-        return;
-    }
-    say(b"lister: the file changed while it was read\n", to);
-}
-
 // A line on standard error. Where it cannot be written, nobody is left to tell.
 fn say<W: Write, E: Write>(line: &[u8], to: &mut Streams<W, E>) {
     let _ = to.errors.write_all(line);
-}
-
-// Shows a table that is read again, up to the first block that does not pass this time or cannot be written.
-fn show_again<R: Read, W: Write, E: Write>(
-    from: &mut R,
-    drop: usize,
-    bands: usize,
-    rows: usize,
-    want: usize,
-    block: &mut [u8],
-    text: &mut [u8],
-    to: &mut Streams<W, E>,
-)
-    requires { (length block.old ≡ 512) × (drop ≤ 1) × (block_room ≤ length text.old) }
-{
-    let mut k = 0;
-    while k < want {
-        let a = next_block(from, drop, bands, rows, k, block);
-        if !is_done(a) {
-            stopped(a, k, text, to);
-            return;
-        }
-        if !show_block(drop, bands, rows, k, block, text, to) {
-            return;
-        }
-        k += 1;
-    }
-}
-
-// Shows a table of which the first reading was judged, by the second, from its beginning. What cannot go back there is read on, and judged as any
-// second reading is.
-fn list_again<S: Read + Seek, W: Write, E: Write>(
-    j: Judging,
-    second: &mut S,
-    block: &mut [u8],
-    text: &mut [u8],
-    to: &mut Streams<W, E>,
-)
-    requires { (length block.old ≡ 512) × (j.drop ≤ 1) × (block_room ≤ length text.old) }
-{
-    let a = finish(j);
-    if !is_done(a) {
-        refuse(a, text, to);
-        return;
-    }
-    let _ = second.seek(SeekFrom::Start(0));
-    show_again(second, j.drop, j.bands, j.rows, j.want, block, text, to);
-}
-
-fn list_twice<R: Read, S: Read + Seek, W: Write, E: Write>(
-    first: &mut R,
-    second: &mut S,
-    none: &mut [u8],
-    block: &mut [u8],
-    text: &mut [u8],
-    to: &mut Streams<W, E>,
-)
-    requires { (length block.old ≡ 512) × (block_room ≤ length text.old) }
-{
-    let j = judge_input(first, none, &mut to.errors);
-    list_again(j, second, block, text, to);
 }
 
 // Lists the table that the reader gives, which is read once: no more of it is held than the largest table has.

@@ -1,7 +1,7 @@
 // Reads rows of levels, as many to a row as its argument says, and writes their stored table; a refusal is a line on standard error.
 #![tactic(auto)]
 
-ghost use Rattle.system.specs.Counts.{IsPrefixLen};
+ghost use Rattle.io.specs.Counts.{IsPrefixLen};
 
 use std::rt::Env;
 use system::{Streams, argument_at, is_given};

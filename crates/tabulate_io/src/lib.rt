@@ -2,7 +2,7 @@
 #![tactic(auto)]
 
 ghost use Rattle.std.specs.Prelude.{◌≡◌, ◌≤◌, length};
-ghost use Rattle.system.specs.Counts.{IsPrefixLen};
+ghost use Rattle.io.specs.Counts.{IsPrefixLen};
 ghost use Rattle.answer.specs.Limits.{table_limit, level_limit, pair_room};
 
 use answer::limits::{LEVEL_LIMIT, TABLE_LIMIT};

@@ -10,12 +10,12 @@ pub overflow_mul-k : goal.overflow_mul-k
 overflow_mul-k c =
     let held : let W = c.args.bands - c.args.drop in
     Rows (c.args.k * per_block W) (held_rows W c.args.rows c.args.k) W c.args.bands = block_rows c.args.drop c.args.bands c.args.rows c.args.k c.requires.1 c.requires.0 c.requires.2 in
-    omega (arith, (held).last)
+    omega (arith, held.last)
 
 pub put_rows-requires : goal.put_rows-requires
 put_rows-requires c = let held : let W = c.args.bands - c.args.drop in
     Rows (c.args.k * per_block W) (held_rows W c.args.rows c.args.k) W c.args.bands = block_rows c.args.drop c.args.bands c.args.rows c.args.k c.requires.1 c.requires.0 c.requires.2 in
-    (rw c.held_in-n.ensures (held), c.requires.3, c.requires.4)
+    (rw c.held_in-n.ensures held, c.requires.3, c.requires.4)
 
 pub returns : goal.returns
 returns c = block_put _ _ c.args.rows _ c.requires.1 c.requires.0 c.requires.2 _ _ _ _ _ c.held_in-n.ensures c.put_rows.ensures

@@ -13,12 +13,9 @@ pub loop-j-preserved : goal.loop-j-preserved
 loop-j-preserved c = let p = gains_more _ c.loop-j.j c.gain_in-gain.result _ _ _ _ _ _ c.gain_in-gain.ensures c.loop-j.invariant.3 c.put_gain-next.ensures.text c.put_gain-next.ensures.short in
     (omega arith, c.loop-j.invariant.1, wrote_length p.wrote, p)
 
-pub returns-clause-text : goal.returns-clause-text
-returns-clause-text c = let p = put_digits 5 c.args.row (omega arith) (omega (arith, c.requires.0)) (omega arith) (c.put_number-next.ensures.next, c.put_number-next.ensures.written) in
-    (row_put c.args.row _ c.args.bands c.loop-j.j _ _ _ _ _ _ _ _ (omega arith) (omega arith) p c.loop-j.invariant.3
-    (c.put_text.ensures.next, c.put_text.ensures.written)).0
-
-pub returns-clause-short : goal.returns-clause-short
-returns-clause-short c = let p = put_digits 5 c.args.row (omega arith) (omega (arith, c.requires.0)) (omega arith) (c.put_number-next.ensures.next, c.put_number-next.ensures.written) in
-    (row_put c.args.row _ c.args.bands c.loop-j.j _ _ _ _ _ _ _ _ (omega arith) (omega arith) p c.loop-j.invariant.3
-    (c.put_text.ensures.next, c.put_text.ensures.written)).1
+pub returns : goal.returns
+returns c =
+    let p = put_digits 5 c.args.row (omega arith) (omega (arith, c.requires.0)) (omega arith) (c.put_number-next.ensures.next, c.put_number-next.ensures.written) in
+    let both = row_put c.args.row _ c.args.bands c.loop-j.j _ _ _ _ _ _ _ _ (omega arith) (omega arith) p c.loop-j.invariant.3
+    (c.put_text.ensures.next, c.put_text.ensures.written) in
+    record { text = both.0; short = both.1 }

@@ -15,27 +15,20 @@ use Rattle.normalize.proofs.normalize.Goals as goal
 abbrev all : Settings → Bool → List Float → Bool → List Float → List Float → List Float → List Test
 all st hs es hb eb s d = (not (eqb (length s) (length d)), Length) ∷ tests st hs es hb eb s
 
-pub returns-then-src-dst-clause-told : goal.returns-then-src-dst-clause-told
+pub returns-then-src-dst : goal.returns-then-src-dst
 unfolding normalize_answer
-returns-then-src-dst-clause-told c = (refuses {ts = all c.args.settings c.args.has_scale c.args.element_scale.now c.args.has_bias c.args.element_bias.now c.args.src.now c.args.dst.now} (results c.args.settings c.args.has_scale c.args.element_scale.now c.args.has_bias c.args.element_bias.now c.args.src.now) c.args.dst.now
-    (stop (ap not (ne_eqb _ _ c.if-src-dst.true)))).0
+returns-then-src-dst c =
+    let both = refuses {ts = all c.args.settings c.args.has_scale c.args.element_scale.now c.args.has_bias c.args.element_bias.now c.args.src.now c.args.dst.now} (results c.args.settings c.args.has_scale c.args.element_scale.now c.args.has_bias c.args.element_bias.now c.args.src.now) c.args.dst.now
+    (stop (ap not (ne_eqb _ _ c.if-src-dst.true))) in
+    record { told = both.0; written = both.1 }
 
-pub returns-then-src-dst-clause-written : goal.returns-then-src-dst-clause-written
+pub returns-then-not-is_done : goal.returns-then-not-is_done
 unfolding normalize_answer
-returns-then-src-dst-clause-written c = (refuses {ts = all c.args.settings c.args.has_scale c.args.element_scale.now c.args.has_bias c.args.element_bias.now c.args.src.now c.args.dst.now} (results c.args.settings c.args.has_scale c.args.element_scale.now c.args.has_bias c.args.element_bias.now c.args.src.now) c.args.dst.now
-    (stop (ap not (ne_eqb _ _ c.if-src-dst.true)))).1
-
-pub returns-then-not-is_done-clause-told : goal.returns-then-not-is_done-clause-told
-unfolding normalize_answer
-returns-then-not-is_done-clause-told c = (breaks {ts = all c.args.settings c.args.has_scale c.args.element_scale.now c.args.has_bias c.args.element_bias.now c.args.src.now c.args.dst.now} (results c.args.settings c.args.has_scale c.args.element_scale.now c.args.has_bias c.args.element_bias.now c.args.src.now) c.args.dst.now
+returns-then-not-is_done c =
+    let both = breaks {ts = all c.args.settings c.args.has_scale c.args.element_scale.now c.args.has_bias c.args.element_bias.now c.args.src.now c.args.dst.now} (results c.args.settings c.args.has_scale c.args.element_scale.now c.args.has_bias c.args.element_bias.now c.args.src.now) c.args.dst.now
     c.judge-a.result (sym c.is_done.ensures ∙ c.if-not-is_done.true)
-    (skip (ap not (eq-eqb _ _ c.if-src-dst.false)) (rest c.judge-a.ensures))).0
-
-pub returns-then-not-is_done-clause-written : goal.returns-then-not-is_done-clause-written
-unfolding normalize_answer
-returns-then-not-is_done-clause-written c = (breaks {ts = all c.args.settings c.args.has_scale c.args.element_scale.now c.args.has_bias c.args.element_bias.now c.args.src.now c.args.dst.now} (results c.args.settings c.args.has_scale c.args.element_scale.now c.args.has_bias c.args.element_bias.now c.args.src.now) c.args.dst.now
-    c.judge-a.result (sym c.is_done.ensures ∙ c.if-not-is_done.true)
-    (skip (ap not (eq-eqb _ _ c.if-src-dst.false)) (rest c.judge-a.ensures))).1
+    (skip (ap not (eq-eqb _ _ c.if-src-dst.false)) (rest c.judge-a.ensures)) in
+    record { told = both.0; written = both.1 }
 
 pub fill-requires : goal.fill-requires
 fill-requires c = (
@@ -44,14 +37,10 @@ fill-requires c = (
       (sym c.is_done.ensures ∙ c.if-not-is_done.false) c.judge-a.ensures,
 )
 
-pub returns-clause-told : goal.returns-clause-told
+pub returns : goal.returns
 unfolding normalize_answer
-returns-clause-told c = (ends {ts = all c.args.settings c.args.has_scale c.args.element_scale.now c.args.has_bias c.args.element_bias.now c.args.src.now c.args.dst.now} (results c.args.settings c.args.has_scale c.args.element_scale.now c.args.has_bias c.args.element_bias.now c.args.src.now) c.args.dst.now
+returns c =
+    let both = ends {ts = all c.args.settings c.args.has_scale c.args.element_scale.now c.args.has_bias c.args.element_bias.now c.args.src.now c.args.dst.now} (results c.args.settings c.args.has_scale c.args.element_scale.now c.args.has_bias c.args.element_bias.now c.args.src.now) c.args.dst.now
     c.judge-a.result (sym c.is_done.ensures ∙ c.if-not-is_done.false) c.fill.ensures
-    (skip (ap not (eq-eqb _ _ c.if-src-dst.false)) (rest c.judge-a.ensures))).0
-
-pub returns-clause-written : goal.returns-clause-written
-unfolding normalize_answer
-returns-clause-written c = (ends {ts = all c.args.settings c.args.has_scale c.args.element_scale.now c.args.has_bias c.args.element_bias.now c.args.src.now c.args.dst.now} (results c.args.settings c.args.has_scale c.args.element_scale.now c.args.has_bias c.args.element_bias.now c.args.src.now) c.args.dst.now
-    c.judge-a.result (sym c.is_done.ensures ∙ c.if-not-is_done.false) c.fill.ensures
-    (skip (ap not (eq-eqb _ _ c.if-src-dst.false)) (rest c.judge-a.ensures))).1
+    (skip (ap not (eq-eqb _ _ c.if-src-dst.false)) (rest c.judge-a.ensures)) in
+    record { told = both.0; written = both.1 }

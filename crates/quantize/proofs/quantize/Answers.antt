@@ -1,64 +1,60 @@
 -- Each return is the first test of the list that holds (`Gives`): what that answer tells, and what it leaves. Past all four dst is filled with the codes.
-use Rattle.std.proofs.Common.{ℕ, ◌≡◌, Float, List, map, sym, ◌∙◌, ap}
+use Rattle.std.proofs.Common.{true, length, drop, ◌≤◌, ℕ, ◌≡◌, Float, List, map, sym, ◌∙◌, ap}
 use mathlib.Core.Bool.{not}
 use borrow.Author.Tests.{lt-ltb, le-ltb, eq-eqb, ne_eqb}
 use Rattle.answer.specs.Answer.{when_done, told_of}
+use Rattle.answer.specs.Limits.{element_limit}
+use lib.Ieee.Scale.{finite}
 use Rattle.answer.specs.declared.Answer.{Answer}
 use Rattle.answer.specs.declared.Refusal.TheVariants.{Domain}
-use Rattle.answer.proofs.Chain.{Gives, gives, clear, stop, skip, found, found_none}
+use Rattle.answer.proofs.Chain.{Gives, told_and_left, clear, stop, skip, found, found_none}
 use Rattle.quantize.specs.Quantize.{code_of, tests, quantize_answer, quantize_told, quantize_out}
 use Rattle.quantize.proofs.quantize.Goals as goal
 
-tells : (inv : Float) (s : List Float) (d : List ℕ) {a : Answer} → Gives (tests inv s d) a → told_of a ≡ quantize_told inv s d
+-- what the first test that holds tells and leaves
+outcome : (inv : Float) (zp : ℕ) (s : List Float) (d : List ℕ) {a : Answer} → Gives (tests inv s d) a
+    → (told_of a ≡ quantize_told inv s d) × (when_done a (map (code_of inv zp) s) d ≡ quantize_out inv zp s d)
 unfolding quantize_answer
-tells inv s d g = ap told_of (gives g)
+outcome inv zp s d g = told_and_left _ _ g
 
-leaves : (inv : Float) (zp : ℕ) (s : List Float) (d : List ℕ) {a : Answer} → Gives (tests inv s d) a
-    → when_done a (map (code_of inv zp) s) d ≡ quantize_out inv zp s d
-unfolding quantize_answer
-leaves inv zp s d g = ap (λ a. when_done a (map (code_of inv zp) s) d) (gives g)
+-- past the first three
+past : (inv : Float) (s : List Float) (d : List ℕ) {a : Answer} → length s ≡ length d → length s ≤ element_limit → finite inv ≡ true
+    → Gives (drop 3 (tests inv s d)) a → Gives (tests inv s d) a
+past inv s d same most ok g = skip (ap not (eq-eqb _ _ same)) (skip (le-ltb _ _ most) (skip (ap not ok) g))
 
-pub returns-then-src-dst-clause-told : goal.returns-then-src-dst-clause-told
-returns-then-src-dst-clause-told c = tells _ _ _ (stop (ap not (ne_eqb _ _ c.if-src-dst.true)))
+pub returns-then-src-dst : goal.returns-then-src-dst
+returns-then-src-dst c =
+    let x = c.args in
+    let o = outcome x.inv_scale x.zero_point x.src.now x.dst.now (stop (ap not (ne_eqb _ _ c.if-src-dst.true))) in
+    record { told = o.0; written = o.1 }
 
-pub returns-then-src-dst-clause-written : goal.returns-then-src-dst-clause-written
-returns-then-src-dst-clause-written c = leaves _ _ _ _ (stop (ap not (ne_eqb _ _ c.if-src-dst.true)))
+pub returns-then-src-gt-ELEMENT_LIMIT : goal.returns-then-src-gt-ELEMENT_LIMIT
+returns-then-src-gt-ELEMENT_LIMIT c =
+    let x = c.args in
+    let o = outcome x.inv_scale x.zero_point x.src.now x.dst.now
+    (skip (ap not (eq-eqb _ _ c.if-src-dst.false)) (stop (lt-ltb _ _ c.if-src-gt-ELEMENT_LIMIT.true))) in
+    record { told = o.0; written = o.1 }
 
-pub returns-then-src-gt-ELEMENT_LIMIT-clause-told : goal.returns-then-src-gt-ELEMENT_LIMIT-clause-told
-returns-then-src-gt-ELEMENT_LIMIT-clause-told c =
-    tells _ _ _ (skip (ap not (eq-eqb _ _ c.if-src-dst.false)) (stop (lt-ltb _ _ c.if-src-gt-ELEMENT_LIMIT.true)))
+pub returns-then-not-is_finite : goal.returns-then-not-is_finite
+returns-then-not-is_finite c =
+    let x = c.args in
+    let o = outcome x.inv_scale x.zero_point x.src.now x.dst.now
+    (skip (ap not (eq-eqb _ _ c.if-src-dst.false)) (skip (le-ltb _ _ c.if-src-gt-ELEMENT_LIMIT.false)
+    (stop (ap not (sym c.is_finite.ensures ∙ c.if-not-is_finite.true))))) in
+    record { told = o.0; written = o.1 }
 
-pub returns-then-src-gt-ELEMENT_LIMIT-clause-written : goal.returns-then-src-gt-ELEMENT_LIMIT-clause-written
-returns-then-src-gt-ELEMENT_LIMIT-clause-written c =
-    leaves _ _ _ _ (skip (ap not (eq-eqb _ _ c.if-src-dst.false)) (stop (lt-ltb _ _ c.if-src-gt-ELEMENT_LIMIT.true)))
+pub returns-then-bad-src : goal.returns-then-bad-src
+returns-then-bad-src c =
+    let x = c.args in
+    let o = outcome x.inv_scale x.zero_point x.src.now x.dst.now
+    (past _ _ _ c.if-src-dst.false c.if-src-gt-ELEMENT_LIMIT.false (sym c.is_finite.ensures ∙ c.if-not-is_finite.false)
+    (found Domain _ c.first_not_finite-bad.ensures c.if-bad-src.true)) in
+    record { told = o.0; written = o.1 }
 
-pub returns-then-not-is_finite-clause-told : goal.returns-then-not-is_finite-clause-told
-returns-then-not-is_finite-clause-told c =
-    tells _ _ _ (skip (ap not (eq-eqb _ _ c.if-src-dst.false)) (skip (le-ltb _ _ c.if-src-gt-ELEMENT_LIMIT.false)
-    (stop (ap not (sym c.is_finite.ensures ∙ c.if-not-is_finite.true)))))
-
-pub returns-then-not-is_finite-clause-written : goal.returns-then-not-is_finite-clause-written
-returns-then-not-is_finite-clause-written c =
-    leaves _ _ _ _ (skip (ap not (eq-eqb _ _ c.if-src-dst.false)) (skip (le-ltb _ _ c.if-src-gt-ELEMENT_LIMIT.false)
-    (stop (ap not (sym c.is_finite.ensures ∙ c.if-not-is_finite.true)))))
-
-pub returns-then-bad-src-clause-told : goal.returns-then-bad-src-clause-told
-returns-then-bad-src-clause-told c =
-    tells _ _ _ (skip (ap not (eq-eqb _ _ c.if-src-dst.false)) (skip (le-ltb _ _ c.if-src-gt-ELEMENT_LIMIT.false)
-    (skip (ap not (sym c.is_finite.ensures ∙ c.if-not-is_finite.false)) (found Domain _ c.first_not_finite-bad.ensures c.if-bad-src.true))))
-
-pub returns-then-bad-src-clause-written : goal.returns-then-bad-src-clause-written
-returns-then-bad-src-clause-written c =
-    leaves _ _ _ _ (skip (ap not (eq-eqb _ _ c.if-src-dst.false)) (skip (le-ltb _ _ c.if-src-gt-ELEMENT_LIMIT.false)
-    (skip (ap not (sym c.is_finite.ensures ∙ c.if-not-is_finite.false)) (found Domain _ c.first_not_finite-bad.ensures c.if-bad-src.true))))
-
-pub returns-clause-told : goal.returns-clause-told
-returns-clause-told c =
-    tells _ _ _ (skip (ap not (eq-eqb _ _ c.if-src-dst.false)) (skip (le-ltb _ _ c.if-src-gt-ELEMENT_LIMIT.false)
-    (skip (ap not (sym c.is_finite.ensures ∙ c.if-not-is_finite.false)) (found_none _ c.first_not_finite-bad.ensures c.if-bad-src.false clear))))
-
-pub returns-clause-written : goal.returns-clause-written
-returns-clause-written c =
-    c.fill.ensures
-    ∙ leaves _ _ _ _ (skip (ap not (eq-eqb _ _ c.if-src-dst.false)) (skip (le-ltb _ _ c.if-src-gt-ELEMENT_LIMIT.false)
-    (skip (ap not (sym c.is_finite.ensures ∙ c.if-not-is_finite.false)) (found_none _ c.first_not_finite-bad.ensures c.if-bad-src.false clear))))
+pub returns : goal.returns
+returns c =
+    let x = c.args in
+    let o = outcome x.inv_scale x.zero_point x.src.now x.dst.now
+    (past _ _ _ c.if-src-dst.false c.if-src-gt-ELEMENT_LIMIT.false (sym c.is_finite.ensures ∙ c.if-not-is_finite.false)
+    (found_none _ c.first_not_finite-bad.ensures c.if-bad-src.false clear)) in
+    record { told = o.0; written = c.fill.ensures ∙ o.1 }

@@ -16,47 +16,29 @@ use Rattle.softmax.proofs.softmax.Goals as goal
 abbrev all : Bool → List Float → List Float → List Test
 all flush s d = (not (eqb (length s) (length d)), Length) ∷ tests flush s
 
-pub returns-then-src-dst-clause-told : goal.returns-then-src-dst-clause-told
+pub returns-then-src-dst : goal.returns-then-src-dst
 unfolding softmax_answer
-returns-then-src-dst-clause-told c =
-    (refuses {ts = all c.args.flush c.args.src.now c.args.dst.now} (result_of c.args.src.now) c.args.dst.now
-    (stop (ap not (ne_eqb _ _ c.if-src-dst.true)))).0
+returns-then-src-dst c =
+    let both = refuses {ts = all c.args.flush c.args.src.now c.args.dst.now} (result_of c.args.src.now) c.args.dst.now
+    (stop (ap not (ne_eqb _ _ c.if-src-dst.true))) in
+    record { told = both.0; written = both.1 }
 
-pub returns-then-src-dst-clause-written : goal.returns-then-src-dst-clause-written
-unfolding softmax_answer
-returns-then-src-dst-clause-written c =
-    (refuses {ts = all c.args.flush c.args.src.now c.args.dst.now} (result_of c.args.src.now) c.args.dst.now
-    (stop (ap not (ne_eqb _ _ c.if-src-dst.true)))).1
-
-pub returns-then-not-is_done-clause-told : goal.returns-then-not-is_done-clause-told
+pub returns-then-not-is_done : goal.returns-then-not-is_done
 unfolding softmax_answer in_place_answer
-returns-then-not-is_done-clause-told c =
-    (breaks {ts = all c.args.flush c.args.src.now c.args.dst.now} (result_of c.args.src.now) c.args.dst.now
+returns-then-not-is_done c =
+    let both = breaks {ts = all c.args.flush c.args.src.now c.args.dst.now} (result_of c.args.src.now) c.args.dst.now
     c.judge-answer.result (sym c.is_done.ensures ∙ c.if-not-is_done.true)
-    (skip (ap not (eq-eqb _ _ c.if-src-dst.false)) (rest c.judge-answer.ensures))).0
+    (skip (ap not (eq-eqb _ _ c.if-src-dst.false)) (rest c.judge-answer.ensures)) in
+    record { told = both.0; written = both.1 }
 
-pub returns-then-not-is_done-clause-written : goal.returns-then-not-is_done-clause-written
+pub returns-then-all_masked : goal.returns-then-all_masked
 unfolding softmax_answer in_place_answer
-returns-then-not-is_done-clause-written c =
-    (breaks {ts = all c.args.flush c.args.src.now c.args.dst.now} (result_of c.args.src.now) c.args.dst.now
-    c.judge-answer.result (sym c.is_done.ensures ∙ c.if-not-is_done.true)
-    (skip (ap not (eq-eqb _ _ c.if-src-dst.false)) (rest c.judge-answer.ensures))).1
-
-pub returns-then-all_masked-clause-told : goal.returns-then-all_masked-clause-told
-unfolding softmax_answer in_place_answer
-returns-then-all_masked-clause-told c =
-    (ends {ts = all c.args.flush c.args.src.now c.args.dst.now} (result_of c.args.src.now) c.args.dst.now
+returns-then-all_masked c =
+    let both = ends {ts = all c.args.flush c.args.src.now c.args.dst.now} (result_of c.args.src.now) c.args.dst.now
     c.judge-answer.result (sym c.is_done.ensures ∙ c.if-not-is_done.false)
     (result_clear c.args.src.now _ _ (sym c.all_masked.ensures ∙ c.if-all_masked.true) c.if-src-dst.false c.clear.ensures)
-    (skip (ap not (eq-eqb _ _ c.if-src-dst.false)) (rest c.judge-answer.ensures))).0
-
-pub returns-then-all_masked-clause-written : goal.returns-then-all_masked-clause-written
-unfolding softmax_answer in_place_answer
-returns-then-all_masked-clause-written c =
-    (ends {ts = all c.args.flush c.args.src.now c.args.dst.now} (result_of c.args.src.now) c.args.dst.now
-    c.judge-answer.result (sym c.is_done.ensures ∙ c.if-not-is_done.false)
-    (result_clear c.args.src.now _ _ (sym c.all_masked.ensures ∙ c.if-all_masked.true) c.if-src-dst.false c.clear.ensures)
-    (skip (ap not (eq-eqb _ _ c.if-src-dst.false)) (rest c.judge-answer.ensures))).1
+    (skip (ap not (eq-eqb _ _ c.if-src-dst.false)) (rest c.judge-answer.ensures)) in
+    record { told = both.0; written = both.1 }
 
 pub exps-requires-clause-by_index : goal.exps-requires-clause-by_index
 exps-requires-clause-by_index c =
@@ -64,20 +46,12 @@ exps-requires-clause-by_index c =
     let inside = done_domain c.args.src.now _ c.judge-answer.result done c.judge-answer.ensures in
     λ i h. rw c.max.ensures (not_above c.args.src.now inside i h)
 
-pub returns-clause-told : goal.returns-clause-told
+pub returns : goal.returns
 unfolding softmax_answer in_place_answer
-returns-clause-told c =
-    (ends {ts = all c.args.flush c.args.src.now c.args.dst.now} (result_of c.args.src.now) c.args.dst.now
+returns c =
+    let both = ends {ts = all c.args.flush c.args.src.now c.args.dst.now} (result_of c.args.src.now) c.args.dst.now
     c.judge-answer.result (sym c.is_done.ensures ∙ c.if-not-is_done.false)
     (result_passes c.args.src.now c.max.result c.sum.result _ _ (sym c.all_masked.ensures ∙ c.if-all_masked.false) c.max.ensures
     c.exps.ensures c.sum.ensures c.scale.ensures)
-    (skip (ap not (eq-eqb _ _ c.if-src-dst.false)) (rest c.judge-answer.ensures))).0
-
-pub returns-clause-written : goal.returns-clause-written
-unfolding softmax_answer in_place_answer
-returns-clause-written c =
-    (ends {ts = all c.args.flush c.args.src.now c.args.dst.now} (result_of c.args.src.now) c.args.dst.now
-    c.judge-answer.result (sym c.is_done.ensures ∙ c.if-not-is_done.false)
-    (result_passes c.args.src.now c.max.result c.sum.result _ _ (sym c.all_masked.ensures ∙ c.if-all_masked.false) c.max.ensures
-    c.exps.ensures c.sum.ensures c.scale.ensures)
-    (skip (ap not (eq-eqb _ _ c.if-src-dst.false)) (rest c.judge-answer.ensures))).1
+    (skip (ap not (eq-eqb _ _ c.if-src-dst.false)) (rest c.judge-answer.ensures)) in
+    record { told = both.0; written = both.1 }

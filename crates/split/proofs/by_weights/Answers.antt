@@ -19,27 +19,17 @@ use Rattle.split.proofs.Passed.{last_tests, softmax_rest, done_input, past_count
 use Rattle.split.proofs.Positive.{level_steps_length, steps_total}
 use Rattle.split.proofs.by_weights.Goals as goal
 
-pub returns-then-not-is_done-clause-told : goal.returns-then-not-is_done-clause-told
+pub returns-then-not-is_done : goal.returns-then-not-is_done
 unfolding split_answer
-returns-then-not-is_done-clause-told c =
+returns-then-not-is_done c =
     let s = c.args.levels.now in
     let p = c.requires.in_bounds in
     let settled : c.softmax-answer.result ≡ judged (last_tests s) =
     softmax_rest _ _ c.softmax-answer.result p.1 c.requires.levels_len.0 c.softmax-answer.ensures.told in
-    (breaks {ts = tests c.args.levels.now c.args.gains.now} (gains_of (level_steps c.args.levels.now)) c.args.gains.now
+    let both = breaks {ts = tests c.args.levels.now c.args.gains.now} (gains_of (level_steps c.args.levels.now)) c.args.gains.now
     c.softmax-answer.result (sym c.is_done.ensures ∙ c.if-not-is_done.true)
-    (past_counts _ _ p.0 p.1 p.2 settled)).0
-
-pub returns-then-not-is_done-clause-written : goal.returns-then-not-is_done-clause-written
-unfolding split_answer
-returns-then-not-is_done-clause-written c =
-    let s = c.args.levels.now in
-    let p = c.requires.in_bounds in
-    let settled : c.softmax-answer.result ≡ judged (last_tests s) =
-    softmax_rest _ _ c.softmax-answer.result p.1 c.requires.levels_len.0 c.softmax-answer.ensures.told in
-    (breaks {ts = tests c.args.levels.now c.args.gains.now} (gains_of (level_steps c.args.levels.now)) c.args.gains.now
-    c.softmax-answer.result (sym c.is_done.ensures ∙ c.if-not-is_done.true)
-    (past_counts _ _ p.0 p.1 p.2 settled)).1
+    (past_counts _ _ p.0 p.1 p.2 settled) in
+    record { told = both.0; written = both.1 }
 
 -- where it is done, the weights are softmax's
 pub steps_all-requires-clause-by_index : goal.steps_all-requires-clause-by_index
@@ -72,9 +62,9 @@ part-requires c =
     let few : length s ≤ 64 = omega arith in
     (omega arith, sym p.2 ∙ sym l, subst (λ l. 0 < total l) (sym steps) (steps_total step_count (lit≤ tt) s input few), omega arith)
 
-pub returns-clause-told : goal.returns-clause-told
+pub returns : goal.returns
 unfolding split_answer level_steps_over
-returns-clause-told c =
+returns c =
     let s = c.args.levels.now in
     let p = c.requires.in_bounds in
     let settled : c.softmax-answer.result ≡ judged (last_tests s) =
@@ -85,23 +75,7 @@ returns-clause-told c =
     let weights : c.softmax-answer.new.dst ≡ weights_of s =
     c.softmax-answer.ensures.written ∙ (called _ input false _ c.requires.levels_len.0).left in
     let steps : c.steps_all.new.steps ≡ level_steps s = c.steps_all.ensures ∙ ap (map steps_of) weights in
-    (ends {ts = tests c.args.levels.now c.args.gains.now} (gains_of (level_steps c.args.levels.now)) c.args.gains.now
+    let both = ends {ts = tests c.args.levels.now c.args.gains.now} (gains_of (level_steps c.args.levels.now)) c.args.gains.now
     c.softmax-answer.result done (c.part.ensures ∙ ap gains_of steps)
-    (past_counts _ _ p.0 p.1 p.2 settled)).0
-
-pub returns-clause-written : goal.returns-clause-written
-unfolding split_answer level_steps_over
-returns-clause-written c =
-    let s = c.args.levels.now in
-    let p = c.requires.in_bounds in
-    let settled : c.softmax-answer.result ≡ judged (last_tests s) =
-    softmax_rest _ _ c.softmax-answer.result p.1 c.requires.levels_len.0 c.softmax-answer.ensures.told in
-    let done : is_done c.softmax-answer.result ≡ true = sym c.is_done.ensures ∙ c.if-not-is_done.false in
-    let known : Each (λ x. T (fits binary32 x)) s = λ i h. c.type_inv.levels i in
-    let input : Input s = done_input _ c.softmax-answer.result p.0 p.1 known done settled in
-    let weights : c.softmax-answer.new.dst ≡ weights_of s =
-    c.softmax-answer.ensures.written ∙ (called _ input false _ c.requires.levels_len.0).left in
-    let steps : c.steps_all.new.steps ≡ level_steps s = c.steps_all.ensures ∙ ap (map steps_of) weights in
-    (ends {ts = tests c.args.levels.now c.args.gains.now} (gains_of (level_steps c.args.levels.now)) c.args.gains.now
-    c.softmax-answer.result done (c.part.ensures ∙ ap gains_of steps)
-    (past_counts _ _ p.0 p.1 p.2 settled)).1
+    (past_counts _ _ p.0 p.1 p.2 settled) in
+    record { told = both.0; written = both.1 }

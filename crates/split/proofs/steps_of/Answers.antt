@@ -14,14 +14,14 @@ unfolding of_bits
 float_to_float-wide c =
     let cast : (let n = steps_of c.args.weight in Casts c.round_ties_even-whole.result n × (n ≤ step_count)) = weight_steps c.args.weight c.round_ties_even-whole.result (subst T (sym c.well_formed.0.1) tt) c.requires
     (c.round_ties_even-whole.ensures ∙ ap (λ x. round_even binary32 (mul binary32 x steps_f)) c.abs.ensures) in
-    (cast).0.wide
+    cast.0.wide
 
 pub float_to_int-result : goal.float_to_int-result
 unfolding of_bits
 float_to_int-result c =
     let cast : (let n = steps_of c.args.weight in Casts c.round_ties_even-whole.result n × (n ≤ step_count)) = weight_steps c.args.weight c.round_ties_even-whole.result (subst T (sym c.well_formed.0.1) tt) c.requires
     (c.round_ties_even-whole.ensures ∙ ap (λ x. round_even binary32 (mul binary32 x steps_f)) c.abs.ensures) in
-    (cast).0.whole
+    cast.0.whole
 
 pub returns : goal.returns
 unfolding of_bits

@@ -13,9 +13,9 @@ float_to_bits-result c = no_nan c.args.x c.if-x.false
 pub float_from_bits-result : goal.float_from_bits-result
 float_from_bits-result c =
     let fits_x : T (fits binary32 c.args.x) = subst T (sym c.well_formed.0.1) tt in
-    abs_no_nan c.args.x (fits_x) (no_nan c.args.x c.if-x.false)
+    abs_no_nan c.args.x fits_x (no_nan c.args.x c.if-x.false)
 
 pub returns : goal.returns
 returns c =
     let fits_x : T (fits binary32 c.args.x) = subst T (sym c.well_formed.0.1) tt in
-    abs_bits c.args.x (fits_x) (no_nan c.args.x c.if-x.false)
+    abs_bits c.args.x fits_x (no_nan c.args.x c.if-x.false)

@@ -30,19 +30,13 @@ word_at-rows-requires c =
     let past : Done ≡ table_answer c.args.bytes.now = sym c.in_default.is ∙ c.table.ensures in
     omega (arith, begun_long (table_begun _ past))
 
-pub returns-then-bands-drop-clause-told : goal.returns-then-bands-drop-clause-told
-returns-then-bands-drop-clause-told c =
+pub returns-then-bands-drop : goal.returns-then-bands-drop
+returns-then-bands-drop c =
     let past : Done ≡ table_answer c.args.bytes.now = sym c.in_default.is ∙ c.table.ensures in
     let known : Known c.args.bytes.now (c.word_at-bands.result - c.drop_in-from.result) c.word_at-bands.result c.word_at-rows.result =
     forms.known _ _ _ _ c.drop_in-from.ensures.0 c.word_at-bands.ensures.0 c.word_at-rows.ensures.0 (table_begun _ past) in
-    (move_refuses c.args.drop c.args.bytes.now _ _ (few_refuse c.args.drop c.args.bytes.now _ _ _ past known.bands known.rows c.if-bands-drop.true)).0
-
-pub returns-then-bands-drop-clause-written : goal.returns-then-bands-drop-clause-written
-returns-then-bands-drop-clause-written c =
-    let past : Done ≡ table_answer c.args.bytes.now = sym c.in_default.is ∙ c.table.ensures in
-    let known : Known c.args.bytes.now (c.word_at-bands.result - c.drop_in-from.result) c.word_at-bands.result c.word_at-rows.result =
-    forms.known _ _ _ _ c.drop_in-from.ensures.0 c.word_at-bands.ensures.0 c.word_at-rows.ensures.0 (table_begun _ past) in
-    (move_refuses c.args.drop c.args.bytes.now _ _ (few_refuse c.args.drop c.args.bytes.now _ _ _ past known.bands known.rows c.if-bands-drop.true)).1
+    let both = move_refuses c.args.drop c.args.bytes.now _ _ (few_refuse c.args.drop c.args.bytes.now _ _ _ past known.bands known.rows c.if-bands-drop.true) in
+    record { told = both.0; written = both.1 }
 
 pub blocks_of-requires : goal.blocks_of-requires
 blocks_of-requires c =
@@ -55,21 +49,14 @@ blocks_of-requires c =
 pub overflow_mul-blocks_of : goal.overflow_mul-blocks_of
 overflow_mul-blocks_of c = omega (arith, c.blocks_of.ensures, blocks_small (c.word_at-bands.result - c.args.drop) c.word_at-rows.result)
 
-pub returns-then-res-blocks_of-clause-told : goal.returns-then-res-blocks_of-clause-told
-returns-then-res-blocks_of-clause-told c =
+pub returns-then-res-blocks_of : goal.returns-then-res-blocks_of
+returns-then-res-blocks_of c =
     let past : Done ≡ table_answer c.args.bytes.now = sym c.in_default.is ∙ c.table.ensures in
     let known : Known c.args.bytes.now (c.word_at-bands.result - c.drop_in-from.result) c.word_at-bands.result c.word_at-rows.result =
     forms.known _ _ _ _ c.drop_in-from.ensures.0 c.word_at-bands.ensures.0 c.word_at-rows.ensures.0 (table_begun _ past) in
-    (move_refuses c.args.drop c.args.bytes.now _ _
-    (room_refuses c.args.drop c.args.bytes.now _ _ _ past known.bands known.rows (omega arith) _ c.blocks_of.ensures c.if-res-blocks_of.true)).0
-
-pub returns-then-res-blocks_of-clause-written : goal.returns-then-res-blocks_of-clause-written
-returns-then-res-blocks_of-clause-written c =
-    let past : Done ≡ table_answer c.args.bytes.now = sym c.in_default.is ∙ c.table.ensures in
-    let known : Known c.args.bytes.now (c.word_at-bands.result - c.drop_in-from.result) c.word_at-bands.result c.word_at-rows.result =
-    forms.known _ _ _ _ c.drop_in-from.ensures.0 c.word_at-bands.ensures.0 c.word_at-rows.ensures.0 (table_begun _ past) in
-    (move_refuses c.args.drop c.args.bytes.now _ _
-    (room_refuses c.args.drop c.args.bytes.now _ _ _ past known.bands known.rows (omega arith) _ c.blocks_of.ensures c.if-res-blocks_of.true)).1
+    let both = move_refuses c.args.drop c.args.bytes.now _ _
+    (room_refuses c.args.drop c.args.bytes.now _ _ _ past known.bands known.rows (omega arith) _ c.blocks_of.ensures c.if-res-blocks_of.true) in
+    record { told = both.0; written = both.1 }
 
 pub copy-requires : goal.copy-requires
 copy-requires c =
@@ -79,23 +66,15 @@ copy-requires c =
     c.if-res-blocks_of.false ∙ ap (λ (x : ℕ). 512 * x) (c.blocks_of.ensures ∙ ap (λ (x : ℕ). blocks (c.word_at-bands.result - x) c.word_at-rows.result) (sym c.if-from-drop.true))
     ∙ sym known.long
 
-pub returns-then-from-drop-clause-told : goal.returns-then-from-drop-clause-told
-returns-then-from-drop-clause-told c =
+pub returns-then-from-drop : goal.returns-then-from-drop
+returns-then-from-drop c =
     let past : Done ≡ table_answer c.args.bytes.now = sym c.in_default.is ∙ c.table.ensures in
     let known : Known c.args.bytes.now (c.word_at-bands.result - c.drop_in-from.result) c.word_at-bands.result c.word_at-rows.result =
     forms.known _ _ _ _ c.drop_in-from.ensures.0 c.word_at-bands.ensures.0 c.word_at-rows.ensures.0 (table_begun _ past) in
     let done : Done ≡ move_answer c.args.drop c.args.bytes.now (length c.args.res.now) =
     move_done c.args.drop c.args.bytes.now _ _ _ past known.bands known.rows (omega arith) _ c.blocks_of.ensures c.if-res-blocks_of.false in
-    (move_finishes c.args.drop c.args.bytes.now c.args.res.now _ (moved_copy c.args.drop _ _ c.drop_in-from.ensures.0 c.if-from-drop.true _ c.copy.ensures) done).0
-
-pub returns-then-from-drop-clause-written : goal.returns-then-from-drop-clause-written
-returns-then-from-drop-clause-written c =
-    let past : Done ≡ table_answer c.args.bytes.now = sym c.in_default.is ∙ c.table.ensures in
-    let known : Known c.args.bytes.now (c.word_at-bands.result - c.drop_in-from.result) c.word_at-bands.result c.word_at-rows.result =
-    forms.known _ _ _ _ c.drop_in-from.ensures.0 c.word_at-bands.ensures.0 c.word_at-rows.ensures.0 (table_begun _ past) in
-    let done : Done ≡ move_answer c.args.drop c.args.bytes.now (length c.args.res.now) =
-    move_done c.args.drop c.args.bytes.now _ _ _ past known.bands known.rows (omega arith) _ c.blocks_of.ensures c.if-res-blocks_of.false in
-    (move_finishes c.args.drop c.args.bytes.now c.args.res.now _ (moved_copy c.args.drop _ _ c.drop_in-from.ensures.0 c.if-from-drop.true _ c.copy.ensures) done).1
+    let both = move_finishes c.args.drop c.args.bytes.now c.args.res.now _ (moved_copy c.args.drop _ _ c.drop_in-from.ensures.0 c.if-from-drop.true _ c.copy.ensures) done in
+    record { told = both.0; written = both.1 }
 
 pub move_all-requires-clause-known : goal.move_all-requires-clause-known
 move_all-requires-clause-known c =
@@ -113,24 +92,14 @@ move_all-requires-clause-stores c =
     let target : Stores (c.word_at-bands.result - c.args.drop) c.word_at-bands.result c.word_at-rows.result = target_stores c.args.bytes.now _ _ _ _ known (omega arith) in
     (target, c.requires, c.if-res-blocks_of.false ∙ ap (λ (x : ℕ). 512 * x) c.blocks_of.ensures)
 
-pub returns-clause-told : goal.returns-clause-told
-returns-clause-told c =
+pub returns : goal.returns
+returns c =
     let past : Done ≡ table_answer c.args.bytes.now = sym c.in_default.is ∙ c.table.ensures in
     let known : Known c.args.bytes.now (c.word_at-bands.result - c.drop_in-from.result) c.word_at-bands.result c.word_at-rows.result =
     forms.known _ _ _ _ c.drop_in-from.ensures.0 c.word_at-bands.ensures.0 c.word_at-rows.ensures.0 (table_begun _ past) in
     let done : Done ≡ move_answer c.args.drop c.args.bytes.now (length c.args.res.now) =
     move_done c.args.drop c.args.bytes.now _ _ _ past known.bands known.rows (omega arith) _ c.blocks_of.ensures c.if-res-blocks_of.false in
-    (move_finishes c.args.drop c.args.bytes.now c.args.res.now _
+    let both = move_finishes c.args.drop c.args.bytes.now c.args.res.now _
     (moved_is c.args.drop _ _ _ _ c.drop_in-from.ensures.0 c.if-from-drop.false known.bands known.rows _ c.move_all.ensures)
-    done).0
-
-pub returns-clause-written : goal.returns-clause-written
-returns-clause-written c =
-    let past : Done ≡ table_answer c.args.bytes.now = sym c.in_default.is ∙ c.table.ensures in
-    let known : Known c.args.bytes.now (c.word_at-bands.result - c.drop_in-from.result) c.word_at-bands.result c.word_at-rows.result =
-    forms.known _ _ _ _ c.drop_in-from.ensures.0 c.word_at-bands.ensures.0 c.word_at-rows.ensures.0 (table_begun _ past) in
-    let done : Done ≡ move_answer c.args.drop c.args.bytes.now (length c.args.res.now) =
-    move_done c.args.drop c.args.bytes.now _ _ _ past known.bands known.rows (omega arith) _ c.blocks_of.ensures c.if-res-blocks_of.false in
-    (move_finishes c.args.drop c.args.bytes.now c.args.res.now _
-    (moved_is c.args.drop _ _ _ _ c.drop_in-from.ensures.0 c.if-from-drop.false known.bands known.rows _ c.move_all.ensures)
-    done).1
+    done in
+    record { told = both.0; written = both.1 }

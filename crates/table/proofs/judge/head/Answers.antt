@@ -36,12 +36,12 @@ returns-then-not-head_ok c = let found : judged (head_tests_by (form c.drop_in-d
 pub overflow_sub-word_at : goal.overflow_sub-word_at
 overflow_sub-word_at c =
     let good : Head (form c.drop_in-drop.result) (bytes_from c.args.bytes.now 0) 0 = head_is _ _ (sym c.head_ok.ensures ∙ c.if-not-head_ok.false) in
-    omega (arith, (good).shape.some)
+    omega (arith, good.shape.some)
 
 pub blocks_of-requires : goal.blocks_of-requires
 blocks_of-requires c =
     let good : Head (form c.drop_in-drop.result) (bytes_from c.args.bytes.now 0) 0 = head_is _ _ (sym c.head_ok.ensures ∙ c.if-not-head_ok.false) in
-    rw (c.word_at.ensures.0, c.word_at-2.ensures.0) (shape_fits (sound _ c.drop_in-drop.ensures.1) (good).shape)
+    rw (c.word_at.ensures.0, c.word_at-2.ensures.0) (shape_fits (sound _ c.drop_in-drop.ensures.1) good.shape)
 
 pub overflow_mul-blocks_of : goal.overflow_mul-blocks_of
 overflow_mul-blocks_of c = omega (arith, c.blocks_of.ensures, blocks_small (c.word_at.result - c.drop_in-drop.result) c.word_at-2.result)

@@ -2,7 +2,7 @@
 use Rattle.std.proofs.Common.{arith, sym, ◌∙◌}
 use Rattle.table.proofs.Forms.{sound}
 use Rattle.table.proofs.Reading.{good, good_stores}
-use Rattle.lister_io.proofs.show_again.Goals as goal
+use Rattle.lister_io.proofs.again.show_again.Goals as goal
 
 pub show_block-requires : goal.show_block-requires
 show_block-requires g c =
