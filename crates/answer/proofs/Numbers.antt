@@ -10,8 +10,8 @@ use lib.ListN.{get_or}
 use Rattle.answer.specs.Answer.{class_of, where_of, number_of, told_of}
 use Rattle.answer.specs.declared.Refusal.{Refusal}
 use Rattle.answer.specs.declared.Refusal.TheVariants.{Length, TooMany, NotFinite, Domain, Masked, Result, Count, RowTotal, StoredLength, Check, Header, Unused, OneBand}
-use Rattle.answer.specs.declared.Answer.{Answer}
-use Rattle.answer.specs.declared.Answer.TheVariants.{Done, Refused}
+use Rattle.answer.specs.Answer.{Answer}
+use Rattle.std.specs.Prelude.{Ok, Err}
 
 -- the list, with p as the place where one is told, and its numbers
 abbrev refusals : ℕ → List Refusal
@@ -30,7 +30,7 @@ abbrev refusal_of : ℕ → ℕ → Refusal
 refusal_of n p = get_or (refusals p) (slot n) Length
 
 -- `Done` is 0 with place 0
-pub done_told : told_of Done ≡ (0, 0)
+pub done_told : told_of (Ok tt) ≡ (0, 0)
 done_told = refl
 
 -- each number of the list is a refusal's
@@ -74,12 +74,12 @@ pub refusal_one : (r q : Refusal) → class_of r ≡ class_of q → where_of r �
 refusal_one r q n p = sym (told_back r) ∙ ap (λ k. refusal_of k (where_of r)) n ∙ ap (refusal_of (class_of q)) p ∙ told_back q
 
 -- an answer with the number 0 is done
-pub zero_done : (a : Answer) → number_of a ≡ 0 → a ≡ Done
-zero_done Done e = refl
-zero_done (Refused r) e = absurd (omega (arith, (listed r).0))
+pub zero_done : (a : Answer) → number_of a ≡ 0 → a ≡ (Ok tt)
+zero_done (Ok tt) e = refl
+zero_done (Err r) e = absurd (omega (arith, (listed r).0))
 
 -- number and place tell which answer it is
 pub told_one : (a b : Answer) → told_of a ≡ told_of b → a ≡ b
-told_one Done b e = sym (zero_done b (ap (λ t. t.0) (sym e)))
-told_one (Refused r) Done e = zero_done (Refused r) (ap (λ t. t.0) e)
-told_one (Refused r) (Refused q) e = ap Refused (refusal_one r q (ap (λ t. t.0) e) (ap (λ t. t.1) e))
+told_one (Ok tt) b e = sym (zero_done b (ap (λ t. t.0) (sym e)))
+told_one (Err r) (Ok tt) e = zero_done (Err r) (ap (λ t. t.0) e)
+told_one (Err r) (Err q) e = ap Err (refusal_one r q (ap (λ t. t.0) e) (ap (λ t. t.1) e))

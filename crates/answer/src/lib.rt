@@ -2,7 +2,7 @@
 #![tactic(auto)]
 
 ghost use Rattle.std.specs.Prelude.{◌≡◌};
-ghost use Rattle.answer.specs.Answer.{is_done, class_of, where_of, number_of, place_of};
+ghost use Rattle.answer.specs.Answer.{class_of, where_of, number_of, place_of};
 
 pub mod limits;
 
@@ -23,58 +23,44 @@ pub enum Refusal {
     OneBand,
 }
 
-#[derive(Clone, Copy)]
-pub enum Answer {
-    Done,
-    Refused(Refusal),
-}
+// What a call answers: nothing more, or why it refuses.
+pub type Answer = Result<(), Refusal>;
 
-pub fn is_done(a: Answer) -> bool
-    ensures { result ≡ is_done a }
-{
-    match a {
-        Answer::Done => true,
-        Answer::Refused(_) => false,
+impl Refusal {
+    // Its number in the list.
+    pub fn number(self) -> u8
+        ensures { result ≡ class_of self }
+    {
+        match self {
+            Refusal::Length => 1,
+            Refusal::TooMany => 2,
+            Refusal::NotFinite => 3,
+            Refusal::Domain(_) => 4,
+            Refusal::Masked => 5,
+            Refusal::Result(_) => 6,
+            Refusal::Count => 7,
+            Refusal::RowTotal(_) => 8,
+            Refusal::StoredLength => 9,
+            Refusal::Check(_) => 10,
+            Refusal::Header(_) => 11,
+            Refusal::Unused(_) => 12,
+            Refusal::OneBand => 15,
+        }
     }
-}
 
-fn class(r: Refusal) -> u8
-    ensures { result ≡ class_of r }
-{
-    match r {
-        Refusal::Length => 1,
-        Refusal::TooMany => 2,
-        Refusal::NotFinite => 3,
-        Refusal::Domain(_) => 4,
-        Refusal::Masked => 5,
-        Refusal::Result(_) => 6,
-        Refusal::Count => 7,
-        Refusal::RowTotal(_) => 8,
-        Refusal::StoredLength => 9,
-        Refusal::Check(_) => 10,
-        Refusal::Header(_) => 11,
-        Refusal::Unused(_) => 12,
-        Refusal::OneBand => 15,
-    }
-}
-
-fn at(r: Refusal) -> usize
-    ensures { result ≡ where_of r }
-{
-    match r {
-        Refusal::Length => 0,
-        Refusal::TooMany => 0,
-        Refusal::NotFinite => 0,
-        Refusal::Domain(i) => i,
-        Refusal::Masked => 0,
-        Refusal::Result(i) => i,
-        Refusal::Count => 0,
-        Refusal::RowTotal(row) => row,
-        Refusal::StoredLength => 0,
-        Refusal::Check(block) => block,
-        Refusal::Header(block) => block,
-        Refusal::Unused(block) => block,
-        Refusal::OneBand => 0,
+    // Its place: an element, a row or a block from 0, and 0 where the number has none.
+    pub fn place(self) -> usize
+        ensures { result ≡ where_of self }
+    {
+        match self {
+            Refusal::Domain(at)
+            | Refusal::Result(at)
+            | Refusal::RowTotal(at)
+            | Refusal::Check(at)
+            | Refusal::Header(at)
+            | Refusal::Unused(at) => at,
+            _ => 0,
+        }
     }
 }
 
@@ -83,17 +69,17 @@ pub fn number(a: Answer) -> u8
     ensures { result ≡ number_of a }
 {
     match a {
-        Answer::Done => 0,
-        Answer::Refused(r) => class(r),
+        Ok(()) => 0,
+        Err(why) => why.number(),
     }
 }
 
-// The answer's place: an element, a row or a block from 0, and 0 where the number has none.
+// The answer's place, 0 where it is done.
 pub fn place(a: Answer) -> usize
     ensures { result ≡ place_of a }
 {
     match a {
-        Answer::Done => 0,
-        Answer::Refused(r) => at(r),
+        Ok(()) => 0,
+        Err(why) => why.place(),
     }
 }

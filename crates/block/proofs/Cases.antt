@@ -4,7 +4,7 @@ use mathlib.Core.List.{[], ◌∷◌, ◌++◌}
 use lib.ListN.{replicate}
 use Rattle.lists.specs.Lists.{tab, sum_to}
 use Rattle.answer.specs.Answer.{judged}
-use Rattle.answer.specs.declared.Answer.TheVariants.{Refused}
+use Rattle.std.specs.Prelude.{Err}
 use Rattle.answer.specs.declared.Refusal.TheVariants.{Check}
 use Rattle.block.specs.Form.{Form}
 use Rattle.block.specs.Read.{checks_ok, block_tests_by, block_answer_by}
@@ -19,6 +19,6 @@ one_band_law = refl
 abbrev plain : Form
 plain = record { code = 1; width = λ B. B; least = 1; most = 1; rows = 1; parts = 1 }
 
-pub check_first : block_answer_by plain 0 (replicate 512 1) ≡ Refused (Check 0)
+pub check_first : block_answer_by plain 0 (replicate 512 1) ≡ Err (Check 0)
 unfolding sum_to check_a check_b checks_ok block_tests_by block_answer_by judged
 check_first = refl

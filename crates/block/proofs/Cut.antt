@@ -1,12 +1,12 @@
 -- Laws of bytes cut into blocks. Assumes nothing.
-use Prim.Native.Nat.{ℕ, suc, ◌+◌, ◌*◌, ◌≤◌, ◌<◌}
-use mathlib.Core.Path.{◌≡◌, sym, ap, ◌∙◌}
+use Prim.Native.Nat.{ℕ, suc, ◌+◌, ◌-◌, ◌*◌, ◌≤◌, ◌<◌}
+use mathlib.Core.Path.{◌≡◌, sym, ap, ap₂, ◌∙◌}
 use mathlib.Core.List.{List, ◌++◌}
 use native.Mathlib.Nat.{zero-add}
 use native.Mathlib.Omega.{arith}
 use lib.ListN.{length, get_or, take, drop, length-take, length-drop}
 use lib.Seq.{get_or-take, get_or-drop, take_all, drop_at, take-add, take-append-le, drop-append-le, length-take-le}
-use Rattle.block.specs.Read.{bytes_from, block_of}
+use Rattle.block.specs.Read.{bytes_from, block_of, word_at}
 
 pub block_byte_law : (s : List ℕ) (k i : ℕ) → i < 512 → bytes_from (block_of s k) 0 i ≡ bytes_from s (512 * k) i
 block_byte_law s k i l =
@@ -29,3 +29,26 @@ block_cut s k l =
 -- what follows k whole blocks, if it is no more than a block
 pub block_last : (s t : List ℕ) (k : ℕ) → length s ≡ 512 * k → length t ≤ 512 → block_of (s ++ t) k ≡ t
 block_last s t k l m = ap (take 512) (drop_at s t (512 * k) l) ∙ take_all 512 t m
+
+-- bytes cut out of others, by index: those at the front, those from `from` on, and how many
+pub front_at : (s : List ℕ) (n i : ℕ) → i < n → get_or (take n s) i 0 ≡ bytes_from s 0 i
+front_at s n i l = get_or-take n s i 0 l ∙ ap (λ (x : ℕ). get_or s x 0) (sym (zero-add i))
+
+pub cut_at : (s : List ℕ) (n from i : ℕ) → i < n → get_or (take n (drop from s)) i 0 ≡ bytes_from s from i
+cut_at s n from i l = get_or-take n (drop from s) i 0 l ∙ get_or-drop from s i 0
+
+pub cut_long : (s : List ℕ) (from to : ℕ) → to ≤ length s → length (take (to - from) (drop from s)) ≡ to - from
+cut_long s from to h = simp (length-take, length-drop) (omega arith)
+
+pub rest_at : (s : List ℕ) (n from i : ℕ) → i < n → get_or (take n (drop from s)) i 0 ≡ bytes_from s 0 (from + i)
+rest_at s n from i l = cut_at s n from i l ∙ ap (λ (x : ℕ). get_or s x 0) (sym (zero-add (from + i)))
+
+pub byte_small : (s : List ℕ) (n i : ℕ) → ((i : ℕ) → get_or s i 0 < 256) → i < n → get_or (take n s) i 0 < 256
+byte_small s n i h l = rw (get_or-take n s i 0 l) (h i)
+
+-- as bytes of their own
+pub part_at : (s : List ℕ) (n from i : ℕ) → i < n → bytes_from (take n (drop from s)) 0 i ≡ bytes_from s from i
+part_at s n from i l = ap (λ (x : ℕ). get_or (take n (drop from s)) x 0) (zero-add i) ∙ cut_at s n from i l
+
+pub word_of_part : (s : List ℕ) (n from i : ℕ) → i + 1 < n → word_at (bytes_from (take n (drop from s)) 0) i ≡ word_at (bytes_from s from) i
+word_of_part s n from i l = ap₂ (λ (a b : ℕ). a + 256 * b) (part_at s n from i (omega (arith, l))) (part_at s n from (i + 1) l)

@@ -9,14 +9,13 @@ use mathlib.Core.List.{List}
 use lib.ListN.{get_or}
 use lib.Dec.{leb, eqb}
 use borrow.Author.Tests.{lt-ltb, le-ltb, lt-leb, le-leb, eq-eqb, ne_eqb, eqb-true}
-use Rattle.lists.specs.Lists.{sum_to, first_not}
-use Rattle.lists.proofs.First.{first_same}
+use Rattle.lists.specs.Lists.{sum_to}
 use Rattle.lists.proofs.Sum.{sum_same, sum_more, sum_join, sum_const}
 use Rattle.block.specs.Block.{per_block, row_gain, given, stored}
-use Rattle.block.specs.Write.{row_ok, bad_row}
+use Rattle.block.specs.Write.{row_ok}
 use Rattle.block.specs.Read.{bytes_from, gain_in, gain_at}
-use Rattle.block.specs.Asked.{within_whole}
-use Rattle.block.proofs.Totals.{row_same}
+use Rattle.block.specs.Asked.{row_stored}
+use Rattle.block.proofs.Totals.{row_sum, row_same}
 
 -- place b of row r, n to a row
 pub row_of : (n r b : ℕ) → b < n → (r * n + b) / n ≡ r
@@ -65,11 +64,8 @@ adds_less parts sum = elim (dec_lt parts sum) [
   | no h ↦ eq-eqb (sum + 1 * (parts - sum)) parts (omega arith) ∙ sym (le-leb sum parts (omega arith))
 ]
 
-pub bad_less : (parts W B d n : ℕ) (f : ℕ → ℕ) → W ≡ B - d → d ≡ 1 → d ≤ B → first_not (within_whole parts f W) n ≡ bad_row parts (given parts W B f) B n
-unfolding bad_row
-bad_less parts W B d n f w e h =
-    first_same (within_whole parts f W) (row_ok parts (given parts W B f) B) n
-    (λ r l. sym (row_adds parts W B f r _ d w h refl ∙ rw e (adds_less parts (sum_to (λ j. f (r * W + j)) W))))
+pub adds_but_one : (parts W B d : ℕ) (f : ℕ → ℕ) (r : ℕ) → W ≡ B - d → d ≡ 1 → d ≤ B → leb (row_stored f W r) parts ≡ row_ok parts (given parts W B f) B r
+adds_but_one parts W B d f r w e h = sym (row_adds parts W B f r _ d w h refl ∙ rw e (adds_less parts (row_stored f W r)))
 
 -- rows of which the same is stored
 pub gain_same : (parts W : ℕ) (f g : ℕ → ℕ) (r q : ℕ) → ((j : ℕ) → j < W → f (r * W + j) ≡ g (q * W + j))
@@ -116,12 +112,11 @@ stored_given parts W B f i h l =
 given_whole : (parts B : ℕ) (f : ℕ → ℕ) (i : ℕ) → 1 ≤ B → given parts B B f i ≡ f i
 given_whole parts B f i h = ap (given parts B B f) (sym (div-add-mod' i B)) ∙ stored_given parts B B f i h (omega arith)
 
-pub bad_whole : (parts W B n : ℕ) (f : ℕ → ℕ) → B ≡ W → 1 ≤ B → bad_row parts f B n ≡ bad_row parts (given parts W B f) B n
-unfolding bad_row
-bad_whole parts W B n f e h =
+pub adds_whole : (parts W B : ℕ) (f : ℕ → ℕ) (r : ℕ) → B ≡ W → 1 ≤ B → eqb (row_stored f B r) parts ≡ row_ok parts (given parts W B f) B r
+adds_whole parts W B f r e h =
     rw (← e)
-    (first_same (row_ok parts f B) (row_ok parts (given parts B B f) B) n
-    (λ r l. row_same parts f (given parts B B f) B r r (λ j m. given_whole parts B f (r * B + j) h)))
+    (sym (row_sum parts f (λ j. f (r * B + j)) B r (row_stored f B r) (λ j l. refl) refl)
+    ∙ row_same parts f (given parts B B f) B r r (λ j m. given_whole parts B f (r * B + j) h))
 
 -- stored gain i of block k, in the list of all stored ones
 pub gain_in_law : (s : List ℕ) (W k i : ℕ) → 1 ≤ per_block W * W → i < per_block W * W

@@ -4,23 +4,17 @@ use mathlib.Core.Path.{◌≡◌, refl, sym, ap, ◌∙◌}
 use native.Mathlib.Nat.{mul-le-mul_right, suc-mul}
 use native.Mathlib.Numerals.{add-one}
 use native.Mathlib.Omega.{arith}
-use lib.Dec.{leb, eqb}
+use lib.Dec.{eqb}
 use Rattle.lists.specs.Lists.{sum_to}
 use Rattle.lists.proofs.Sum.{sum_same}
 use Rattle.block.specs.Write.{row_ok}
 use Rattle.block.specs.Read.{word_at, gain_in}
-use Rattle.block.specs.Asked.{within_whole}
 
 -- the sum of a row's gains says whether the row adds up
 pub row_sum : (parts : ℕ) (f g : ℕ → ℕ) (B r sum : ℕ) → ((j : ℕ) → j < B → g j ≡ f (r * B + j)) → sum ≡ sum_to g B
     → row_ok parts f B r ≡ eqb sum parts
 unfolding row_ok
 row_sum parts f g B r sum h e = ap (λ (x : ℕ). eqb x parts) (sym (e ∙ sum_same g (λ j. f (r * B + j)) B h))
-
--- and whether it is within the whole
-pub row_within : (parts : ℕ) (f g : ℕ → ℕ) (W r sum : ℕ) → ((j : ℕ) → j < W → g j ≡ f (r * W + j)) → sum ≡ sum_to g W
-    → leb sum parts ≡ within_whole parts f W r
-row_within parts f g W r sum h e = ap (λ (x : ℕ). leb x parts) (e ∙ sum_same g (λ j. f (r * W + j)) W h)
 
 -- rows whose gains agree
 pub row_same : (parts : ℕ) (f g : ℕ → ℕ) (B r q : ℕ) → ((j : ℕ) → j < B → g (q * B + j) ≡ f (r * B + j)) → row_ok parts f B r ≡ row_ok parts g B q

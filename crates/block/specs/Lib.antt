@@ -1,4 +1,5 @@
 pub mod Form
+pub mod Kind
 pub mod Block
 pub mod Write
 pub mod Read

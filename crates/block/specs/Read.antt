@@ -3,7 +3,7 @@
 use Rattle.std.specs.Prelude.{ℕ, ◌+◌, ◌-◌, ◌*◌, ◌/◌, ◌%◌, Bool, not, ◌&&◌, ◌||◌, List, [], ◌∷◌, ◌++◌, length, get_or, take, drop, ltb, leb, eqb}
 use Rattle.lists.specs.Lists.{tab, first_not, join_to}
 use Rattle.answer.specs.Answer.{Test, judged, when_done}
-use Rattle.answer.specs.declared.Answer.{Answer}
+use Rattle.answer.specs.Answer.{Answer}
 use Rattle.answer.specs.declared.Refusal.TheVariants.{Length, StoredLength, RowTotal, Check, Header, Unused}
 use Rattle.block.specs.Form.{Form}
 use Rattle.block.specs.Block.{check_a, check_b, per_block, blocks, held_rows, given}

@@ -2,7 +2,7 @@
 use Rattle.std.specs.Prelude.{ℕ, ◌+◌, ◌*◌, Bool, not, ◌&&◌, List, [], ◌∷◌, length, get_or, ltb, leb, eqb}
 use Rattle.lists.specs.Lists.{sum_to, first_not}
 use Rattle.answer.specs.Answer.{Test, judged, told_of, when_done}
-use Rattle.answer.specs.declared.Answer.{Answer}
+use Rattle.answer.specs.Answer.{Answer}
 use Rattle.answer.specs.declared.Refusal.TheVariants.{Count, Length, StoredLength, RowTotal}
 use Rattle.block.specs.Form.{Form}
 use Rattle.block.specs.Block.{blocks, table_bytes}

@@ -26,6 +26,7 @@ pub fn shape_ok(least: usize, bands: usize, rows: usize) -> bool
     true
 }
 
+// This and held_in take any rows that fit blocks, as docs/PROMISES.md has it; `Layout` has both as methods.
 pub fn blocks_of(width: usize, rows: usize) -> usize
     requires { Fits width rows }
     ensures { result ≡ blocks width rows }

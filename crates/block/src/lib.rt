@@ -2,5 +2,7 @@
 #![tactic(auto)]
 
 pub mod counts;
+pub mod form;
+pub mod layout;
 pub mod store;
 pub mod word;

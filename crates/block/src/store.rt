@@ -40,7 +40,7 @@ fn block_word(
     0
 }
 
-// Block k of a table, at its place, from the gains of its own rows.
+// Block k of a table, at its place, from the gains of its own rows. (The four that tell the table are no Layout: this stores any form and width.)
 pub fn write_block(
     form: u16,
     width: usize,
@@ -55,15 +55,11 @@ pub fn write_block(
 {
     let at = 512 * k;
     let count = held_in(width, rows, k) * width;
-    let mut j = 0;
-    let mut p = at;
-    while j < 254 {
+    for j in 0..254 {
         let w = block_word(form, width, bands, rows, gains, k, count, j);
-        put_word(p, w, bytes);
-        j += 1;
-        p += 2;
+        put_word(at + 2 * j, w, bytes);
     }
-    let c = sums(bytes, at);
+    let c = sums(&bytes[at..at + 512]);
     put_word(at + 508, c.a, bytes);
     put_word(at + 510, c.b, bytes);
 }
@@ -79,13 +75,10 @@ pub fn write_all(
     requires { Stores width bands rows × (length gains.now ≡ rows * bands) × (length bytes.old ≡ 512 * blocks width rows) }
     ensures { bytes.new ≡ table_bytes form width bands rows gains.now }
 {
-    let n = blocks_of(width, rows);
     let per = 250 / width;
-    let mut k = 0;
-    while k < n {
+    for k in 0..blocks_of(width, rows) {
         let from = k * per * bands;
         let to = from + held_in(width, rows, k) * bands;
         write_block(form, width, bands, rows, &gains[from..to], k, bytes);
-        k += 1;
     }
 }

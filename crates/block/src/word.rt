@@ -3,22 +3,15 @@ ghost use Rattle.std.specs.Prelude.{◌≡◌, ◌+◌, ◌/◌, ◌%◌, ◌<�
 ghost use Rattle.block.specs.Block.{check_a, check_b};
 ghost use Rattle.block.specs.Read.{bytes_from, word_at, checks_ok, blank};
 
-fn wide(x: u8) -> u32
-    ensures { (result ≡ x) × (result < 256) }
+// The number at byte i.
+pub fn word_at(block: &[u8], i: usize) -> usize
+    requires { i + 1 < length block.now }
+    ensures { (result ≡ word_at (bytes_from block.now 0) i) × (result < 65536) }
 {
-    x as u32
+    block[i] as usize + 256 * block[i + 1] as usize
 }
 
-// The number at byte i of the bytes from at on.
-pub fn word_at(bytes: &[u8], at: usize, i: usize) -> usize
-    requires { at + i + 1 < length bytes.now }
-    ensures { (result ≡ word_at (bytes_from bytes.now at) i) × (result < 65536) }
-{
-    let low = wide(bytes[at + i]);
-    let high = wide(bytes[at + (i + 1)]);
-    (low + 256 * high) as usize
-}
-
+// With its place, since it goes into the bytes of a whole table.
 pub fn put_word(at: usize, w: u16, bytes: &mut [u8])
     requires { at + 1 < length bytes.old }
     ensures { bytes.new ≡ set (set bytes.old at (w % 256)) (at + 1) (w / 256) }
@@ -33,21 +26,17 @@ pub struct Checks {
     pub b: u16,
 }
 
-// Both checks of the 508 bytes from at on, in one pass.
-pub fn sums(bytes: &[u8], at: usize) -> Checks
-    requires { at + 508 ≤ length bytes.now }
-    ensures { (result.a ≡ check_a (bytes_from bytes.now at)) × (result.b ≡ check_b (bytes_from bytes.now at)) }
+// Both checks of a block, of its first 508 bytes, in one pass.
+pub fn sums(block: &[u8]) -> Checks
+    requires { 508 ≤ length block.now }
+    ensures { (result.a ≡ check_a (bytes_from block.now 0)) × (result.b ≡ check_b (bytes_from block.now 0)) }
 {
     let mut a: u32 = 0;
     let mut b: u32 = 0;
-    let mut i: u32 = 0;
-    let mut p = at;
-    while i < 508 {
-        let x = wide(bytes[p]);
+    for (i, x) in block[..508].iter().enumerate() {
+        let x = *x as u32;
         a += x;
-        b += (i + 1) * x;
-        i += 1;
-        p += 1;
+        b += (i as u32 + 1) * x;
     }
     Checks {
         a: (a % 65536) as u16,
@@ -55,34 +44,23 @@ pub fn sums(bytes: &[u8], at: usize) -> Checks
     }
 }
 
-pub fn checks_ok(bytes: &[u8], at: usize) -> bool
-    requires { at + 512 ≤ length bytes.now }
-    ensures { result ≡ checks_ok (bytes_from bytes.now at) }
+pub fn checks_ok(block: &[u8]) -> bool
+    requires { 512 ≤ length block.now }
+    ensures { result ≡ checks_ok (bytes_from block.now 0) }
 {
-    let c = sums(bytes, at);
-    let a = c.a as usize;
-    let b = c.b as usize;
-    if word_at(bytes, at, 508) != a {
-        return false;
-    }
-    if word_at(bytes, at, 510) != b {
-        return false;
-    }
-    true
+    let c = sums(block);
+    word_at(block, 508) == c.a as usize && word_at(block, 510) == c.b as usize
 }
 
 // The bytes of a block from its byte `first` up to its checks are zeros.
-pub fn is_blank(bytes: &[u8], at: usize, first: usize) -> bool
-    requires { (at + 512 ≤ length bytes.now) × (first ≤ 508) }
-    ensures { result ≡ blank (bytes_from bytes.now at) first }
+pub fn is_blank(block: &[u8], first: usize) -> bool
+    requires { (512 ≤ length block.now) × (first ≤ 508) }
+    ensures { result ≡ blank (bytes_from block.now 0) first }
 {
-    let n = 508 - first;
-    let mut i = 0;
-    while i < n {
-        if bytes[at + (first + i)] != 0 {
+    for x in &block[first..508] {
+        if *x != 0 {
             return false;
         }
-        i += 1;
     }
     true
 }

@@ -16,6 +16,7 @@ fn ratio(size: f32) -> f32
     1.0 / (size * ERF_P + 1.0)
 }
 
+// A line for each step, as in exp's poly.
 fn poly(t: f32) -> f32
     ensures { result ≡ poly_of t }
 {

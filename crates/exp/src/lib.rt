@@ -11,8 +11,6 @@ use consts::{
     EXP_LOWER_CUTOFF, EXP_OVERFLOW, EXP_POLY_0, EXP_POLY_1, EXP_POLY_2, EXP_POLY_3, EXP_POLY_4,
     EXP_POLY_5, EXP_POLY_6, EXP_UNDERFLOW, INV_LOG2, LOG2_HI, LOG2_LO, ROUNDING_MAGIC,
 };
-use floats::bits::infinity;
-use floats::word::{add_word, shl_23, sub_word};
 
 fn rest(x: f32, j: f32) -> f32
     ensures { result ≡ rest_of x j }
@@ -20,6 +18,7 @@ fn rest(x: f32, j: f32) -> f32
     j * LOG2_LO + (j * LOG2_HI + x)
 }
 
+// A line for each step of the Rust's: as a fold over the coefficients their order would not show.
 fn poly(r: f32) -> f32
     ensures { result ≡ poly_of r }
 {
@@ -34,12 +33,11 @@ fn poly(r: f32) -> f32
 fn ia(k: u32) -> u32
     ensures { result ≡ ia_of k }
 {
-    if 0 < k {
-        if k < 0x80000000 {
-            return 0;
-        }
+    if 0 < k && k < 0x80000000 {
+        0
+    } else {
+        0x83000000
     }
-    0x83000000
 }
 
 // p times 2 to the k, k an i32 as a word.
@@ -47,8 +45,8 @@ fn scale(p: f32, k: u32) -> f32
     ensures { result ≡ scale_of p k }
 {
     let a = ia(k);
-    let s = f32::from_bits(add_word(a, 0x7f000000));
-    let t = f32::from_bits(sub_word(shl_23(k), a));
+    let s = f32::from_bits(a.wrapping_add(0x7f000000));
+    let t = f32::from_bits((k << 23).wrapping_sub(a));
     p * s * t
 }
 
@@ -66,7 +64,7 @@ pub fn exp_within(x: f32) -> f32
     ensures { le x exp_underflow ≡ false → le exp_overflow x ≡ false → result ≡ exp_of x }
 {
     let s = at_least(EXP_UNDERFLOW, x) * INV_LOG2 + ROUNDING_MAGIC;
-    let k = sub_word(f32::to_bits(s), 0x4b400000);
+    let k = s.to_bits().wrapping_sub(0x4b400000);
     scale(poly(rest(x, s - ROUNDING_MAGIC)), k)
 }
 
@@ -74,12 +72,12 @@ pub fn exp(x: f32) -> f32
     ensures { result ≡ exp_of x }
 {
     if x <= EXP_UNDERFLOW {
-        return 0.0;
+        0.0
+    } else if x >= EXP_OVERFLOW {
+        f32::INFINITY
+    } else {
+        exp_within(x)
     }
-    if x >= EXP_OVERFLOW {
-        return infinity();
-    }
-    exp_within(x)
 }
 
 // For x at most zero, minus infinity among it, or a NaN.
@@ -91,8 +89,8 @@ pub fn reduced_range_exp(x: f32) -> f32
         return 0.0;
     }
     let s = at_least(EXP_LOWER_CUTOFF, x) * INV_LOG2 + ROUNDING_MAGIC;
-    let k = sub_word(f32::to_bits(s), 0x4b400000);
-    poly(rest(x, s - ROUNDING_MAGIC)) * f32::from_bits(shl_23(add_word(k, 127)))
+    let k = s.to_bits().wrapping_sub(0x4b400000);
+    poly(rest(x, s - ROUNDING_MAGIC)) * f32::from_bits(k.wrapping_add(127) << 23)
 }
 
 pub fn sigmoid(x: f32) -> f32
@@ -116,8 +114,5 @@ pub fn swish(alpha: f32, x: f32) -> f32
 pub fn elu(alpha: f32, x: f32) -> f32
     ensures { result ≡ elu_of alpha x }
 {
-    if x >= 0.0 {
-        return x;
-    }
-    alpha * (exp(x) - 1.0)
+    if x >= 0.0 { x } else { alpha * (exp(x) - 1.0) }
 }

@@ -1,8 +1,8 @@
 -- How flat softmax's weights are: their exact sum, before any rounding of it, lies close to 1 (request L14). Statements only.
 use Rattle.std.specs.Prelude.{ℕ, ◌+◌, ◌*◌, ◌^◌, ◌≤◌, ◌<◌, ◌≡◌, Bool, List, ◌∷◌, length, replicate, Float}
 use Rattle.answer.specs.Answer.{Outcome}
-use Rattle.answer.specs.declared.Answer.{Answer}
-use Rattle.answer.specs.declared.Answer.TheVariants.{Done}
+use Rattle.answer.specs.Answer.{Answer}
+use Rattle.std.specs.Prelude.{Ok}
 use Rattle.floats.specs.Each.{Each}
 use Rattle.floats.specs.Units.{InUnits, units_of, units_in}
 use Rattle.floats.specs.Values.{f32, zero_f}
@@ -31,7 +31,7 @@ FlatCall =
     → Input s
     → length d ≡ length s
     → Outcome (softmax_told flush s d) (softmax_out flush s d) answer left
-    → (answer ≡ Done) × Flat (length s) left
+    → (answer ≡ (Ok tt)) × Flat (length s) left
 
 -- `softmax_in_place`
 abbrev pub FlatInPlace : Type 0
@@ -39,7 +39,7 @@ FlatInPlace =
     (flush : Bool) (s : List Float) (answer : Answer) (left : List Float)
     → Input s
     → Outcome (in_place_told flush s) (in_place_out flush s) answer left
-    → (answer ≡ Done) × Flat (length s) left
+    → (answer ≡ (Ok tt)) × Flat (length s) left
 
 -- half of that room is too little, on either side: of 0 and four times -16.64 the sum loses each of the four, of 0 and four times -16.6355 it
 -- counts each double

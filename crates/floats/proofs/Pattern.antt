@@ -3,18 +3,20 @@ use Rattle.std.proofs.Common.{◌≡◌, ℕ, zero, suc, ◌+◌, ◌*◌, ◌/�
 use mathlib.Core.Bool.{not-not, false≢true}
 use lib.Ieee.{Float, nan, inf, fin, Format, up, down, binary32, fits, is_nan, nan_bits, of_bits, to_bits, eq, ne, lt, neg}
 use lib.Ieee.Bits.{of_bits-to_bits, to_bits-lt, nan_bits_is, nan_bits_above}
-use lib.Ieee.Compare.{differs_from_itself}
 use lib.Ieee.Scale.{finite}
 use Rattle.floats.specs.Floats.{abs_of}
 
 -- ---- no NaN
 
--- a value that equals itself is no NaN
-pub no_nan : (x : Float) → ne x x ≡ false → T (not (is_nan x))
-unfolding ne is_nan
-no_nan nan h = absurd (true≢false h)
-no_nan (inf s) h = tt
-no_nan (fin s m e) h = tt
+-- as the test `is_nan` tells
+pub no_nan : (x : Float) → is_nan x ≡ false → T (not (is_nan x))
+no_nan x h = subst (λ b. T (not b)) (sym h) tt
+
+pub nan_only : (x : Float) → is_nan x ≡ true → x ≡ nan
+unfolding is_nan
+nan_only nan h = refl
+nan_only (inf s) h = absurd (false≢true h)
+nan_only (fin s m e) h = absurd (false≢true h)
 
 -- the test `x == x` asks for a number, and `x != x` for a NaN
 pub number_test : (x : Float) → eq x x ≡ not (is_nan x)
@@ -29,9 +31,6 @@ pub nan_test : (x : Float) → ne x x ≡ is_nan x
 unfolding ne
 nan_test x = ap not (number_test x) ∙ not-not (is_nan x)
 
-pub is_nan_law : (x : Float) → ne x x ≡ true → x ≡ nan
-is_nan_law x h = differs_from_itself x (subst T (sym h) tt)
-
 -- a pattern whose low 23 bits are zero is no NaN's
 pub low_zero : (n : ℕ) → n % 2 ^ 23 ≡ 0 → T (not (nan_bits binary32 n))
 unfolding nan_bits
@@ -45,35 +44,25 @@ low_zero n h =
 
 -- past the pattern of an infinity stand the NaN's, with either sign
 pub pattern_nan : (n : ℕ) → 0x7f80_0000 < n % 2 ^ 31 → of_bits binary32 n ≡ nan
-pattern_nan n h = go (of_bits binary32 n) (sym (nan_bits_is binary32 n) ∙ nan_bits_above binary32 n ∙ lt-ltb 0x7f80_0000 (n % 2 ^ 31) h)
-  where
-    go : (x : Float) → is_nan x ≡ true → x ≡ nan
-    go nan e = refl
-    go (inf s) e = absurd (false≢true (unfold is_nan in e))
-    go (fin s m d) e = absurd (false≢true (unfold is_nan in e))
+pattern_nan n h = nan_only (of_bits binary32 n) (sym (nan_bits_is binary32 n) ∙ nan_bits_above binary32 n ∙ lt-ltb 0x7f80_0000 (n % 2 ^ 31) h)
 
 pub pattern_no_nan : (n : ℕ) → n % 2 ^ 31 ≤ 0x7f80_0000 → T (not (nan_bits binary32 n))
 pattern_no_nan n h = subst (λ b. T (not b)) (sym (nan_bits_above binary32 n ∙ le-ltb 0x7f80_0000 (n % 2 ^ 31) h)) tt
 
 -- ---- finite: between the infinities
-pub finite_then : (x top : Float) → top ≡ inf false → lt x top ≡ true → lt (neg top) x ≡ finite x
-unfolding lt neg
-finite_then x top e h = subst (λ (u : Float). lt x u ≡ true → lt (neg u) x ≡ finite x) (sym e) (go x) h
-  where
-    go : (x : Float) → lt x (inf false) ≡ true → lt (neg (inf false)) x ≡ finite x
-    go nan h = refl
-    go (inf true) h = refl
-    go (inf false) h = cc
-    go (fin s m e) h = refl
+pub finite_then : (x : Float) → lt x (of_bits binary32 0x7f80_0000) ≡ true → lt (neg (of_bits binary32 0x7f80_0000)) x ≡ finite x
+unfolding lt neg of_bits
+finite_then nan h = refl
+finite_then (inf true) h = refl
+finite_then (inf false) h = cc
+finite_then (fin s m e) h = refl
 
-pub finite_else : (x top : Float) → top ≡ inf false → lt x top ≡ false → false ≡ finite x
-unfolding lt
-finite_else x top e h = subst (λ (u : Float). lt x u ≡ false → false ≡ finite x) (sym e) (go x) h
-  where
-    go : (x : Float) → lt x (inf false) ≡ false → false ≡ finite x
-    go nan h = refl
-    go (inf s) h = refl
-    go (fin s m e) h = cc
+pub finite_else : (x : Float) → lt x (of_bits binary32 0x7f80_0000) ≡ false → lt x (of_bits binary32 0x7f80_0000) ≡ finite x
+unfolding lt of_bits
+finite_else nan h = refl
+finite_else (inf true) h = absurd (true≢false h)
+finite_else (inf false) h = refl
+finite_else (fin s m e) h = cc
 
 -- ---- the sign is the highest bit
 pub fits_sign : (f : Format) (s t : Bool) (m : ℕ) (e : ℤ) → T (fits f (fin s m e)) → T (fits f (fin t m e))

@@ -7,11 +7,11 @@ ghost use Rattle.floats.specs.Floats.{abs_of};
 // The least finite f32, Rust's `f32::MIN`.
 pub const F32_MIN: f32 = -340282346638528859811704183484516925440.0;
 
-// +infinity. No constant may hold it.
+// +infinity, by a clause that says so.
 pub fn infinity() -> f32
     ensures { result ≡ inf false }
 {
-    f32::from_bits(0x7f800000)
+    f32::INFINITY
 }
 
 // Any pattern's value. Every NaN pattern is the one NaN.
@@ -19,30 +19,28 @@ pub fn from_pattern(n: u32) -> f32
     ensures { result ≡ from_bits binary32 n }
 {
     if n % 0x80000000 > 0x7f800000 {
-        let top = infinity();
-        return top - top;
+        f32::NAN
+    } else {
+        f32::from_bits(n)
     }
-    f32::from_bits(n)
 }
 
 // A value's pattern, and 0x7fc00000 for a NaN.
 pub fn pattern(x: f32) -> u32
     ensures { result ≡ to_bits binary32 x }
 {
-    if x != x {
-        return 0x7fc00000;
-    }
-    f32::to_bits(x)
+    if x.is_nan() { 0x7fc00000 } else { x.to_bits() }
 }
 
 // The pattern without its sign.
 pub fn abs(x: f32) -> f32
     ensures { result ≡ abs_of x }
 {
-    if x != x {
-        return x;
+    if x.is_nan() {
+        x
+    } else {
+        f32::from_bits(x.to_bits() % 0x80000000)
     }
-    f32::from_bits(f32::to_bits(x) % 0x80000000)
 }
 
 // The same as the larger of x and 0 - x, +0 of the two zeros: for loops that run in lanes.
@@ -56,6 +54,5 @@ pub fn abs_by_order(x: f32) -> f32
 pub fn is_finite(x: f32) -> bool
     ensures { result ≡ finite x }
 {
-    let top = infinity();
-    if x < top { x > -top } else { false }
+    x < f32::INFINITY && x > -f32::INFINITY
 }

@@ -37,10 +37,9 @@ fn within(x: f32) -> f32
 pub fn round_ties_even(x: f32) -> f32
     ensures { result ≡ round_even binary32 x }
 {
-    if x <= WHOLE_FROM {
-        if x >= -WHOLE_FROM {
-            return within(x);
-        }
+    if x <= WHOLE_FROM && x >= -WHOLE_FROM {
+        within(x)
+    } else {
+        x
     }
-    x
 }

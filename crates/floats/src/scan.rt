@@ -1,46 +1,32 @@
 // The first element of a slice that is no finite number.
 ghost use Rattle.std.specs.Prelude.{◌≡◌, ℕ, ◌<◌, true, false, length};
-ghost use Rattle.floats.specs.Floats.{finite_at, first_not_finite};
+ghost use Rattle.lists.specs.Search.{found_not};
+ghost use Rattle.floats.specs.Floats.{finite_at};
 
 use crate::bits::is_finite;
+use lists::search;
 
-// A look at all elements with no early end, so that it runs in lanes.
+// Whether a look at all elements, which runs in lanes, finds one.
 pub fn any_not_finite(src: &[f32]) -> bool
     ensures { result ≡ false → (i : ℕ) → i < length src.now → finite_at src.now i ≡ true }
 {
-    let mut bad = false;
-    let mut i = 0;
-    while i < src.len() {
-        bad = bad | !is_finite(src[i]);
-        i += 1;
-    }
-    bad
+    search::any_failing(is_finite, src)
 }
 
-// Its place, or the length where every element is finite.
-pub fn first_not_finite(src: &[f32]) -> usize
-    ensures { result ≡ first_not_finite src.now }
+// Its place, if there is one.
+pub fn first_not_finite(src: &[f32]) -> Option<usize>
+    ensures { result ≡ found_not (finite_at src.now) (length src.now) }
 {
-    if !any_not_finite(src) {
-        return src.len();
-    }
-    let mut i = 0;
-    while i < src.len() {
-        if !is_finite(src[i]) {
-            return i;
-        }
-        i += 1;
-    }
-    i
+    search::first_failing(is_finite, src)
 }
 
 // The same, with no look where it is shown that every element is finite.
-pub fn first_unless_shown(shown: bool, src: &[f32]) -> usize
+pub fn first_unless_shown(shown: bool, src: &[f32]) -> Option<usize>
     requires { shown ≡ true → (i : ℕ) → i < length src.now → finite_at src.now i ≡ true }
-    ensures { result ≡ first_not_finite src.now }
+    ensures { result ≡ found_not (finite_at src.now) (length src.now) }
 {
     if shown {
-        return src.len();
+        return None;
     }
     first_not_finite(src)
 }

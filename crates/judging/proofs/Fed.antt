@@ -7,11 +7,10 @@ use native.Mathlib.Omega.{arith}
 use lib.ListN.{length}
 use lib.Dec.{eqb}
 use borrow.Author.Tests.{eqb-true}
-use Rattle.block.specs.Read.{bytes_from, block_of}
+use Rattle.block.specs.Read.{bytes_from}
 use Rattle.block.proofs.Cut.{block_join, block_last}
-use Rattle.table.proofs.Forms.{drop_small}
 use Rattle.judging.specs.declared.Judging.{Judging}
-use Rattle.judging.specs.Judging.{new_judging, first_of, more_of, ragged_of, fed_of, fed_to}
+use Rattle.judging.specs.Judging.{new_judging, first_of, more_of, fed_of, fed_to}
 
 pub fed_start : (s : List ℕ) → new_judging ≡ fed_to s 0
 unfolding fed_to
@@ -41,19 +40,3 @@ fed_join s t (suc k) l = ap₂ fed_of (fed_join s t k (omega arith)) (block_join
 pub fed_more : (s t : List ℕ) (k : ℕ) → length s ≡ 512 * k → length t ≤ 512 → fed_of (fed_to s k) t ≡ fed_to (s ++ t) (suc k)
 unfolding fed_to
 fed_more s t k l m = ap₂ fed_of (sym (fed_join s t k (omega arith))) (sym (block_last s t k l m))
-
--- a form that was found leaves out one gain at most
-few_more : (j : Judging) (s : List ℕ) → j.drop ≤ 1 → (fed_of j s).drop ≤ 1
-unfolding fed_of first_of more_of
-few_more j s h = go (eqb (length s) 0) (eqb (length s) 512) (eqb j.next 0)
-  where
-    go : (a b c : Bool) → (cond a j (cond b (cond c (first_of j.whole (bytes_from s 0)) (more_of j (bytes_from s 0))) (ragged_of j))).drop ≤ 1
-    go true b c = h
-    go false true true = drop_small (bytes_from s 0)
-    go false true false = h
-    go false false c = h
-
-pub few_fed : (s : List ℕ) (k : ℕ) → (fed_to s k).drop ≤ 1
-unfolding fed_to
-few_fed s zero = omega arith
-few_fed s (suc k) = few_more (fed_to s k) (block_of s k) (few_fed s k)

@@ -49,72 +49,74 @@ fn changed<F: Files, W: Write, E: Write>(
     Ok(())
 }
 
-fn sixteen<F: Files, W: Write, E: Write>(files: &F, to: &mut Streams<W, E>) -> io::Result<()> {
-    case(files, "one", to)?;
-    case(files, "two_blocks", to)?;
-    case(files, "full", to)?;
-    case(files, "empty", to)?;
-    case(files, "too_long", to)?;
-    case(files, "short", to)?;
-    case(files, "blocks", to)?;
-    case(files, "check", to)?;
-    case(files, "header", to)?;
-    case(files, "row", to)?;
-    case(files, "unused", to)
-}
+// Of 16 bands, of other numbers of bands, and of form 2.
+const TABLES: [&str; 36] = [
+    "one",
+    "two_blocks",
+    "full",
+    "empty",
+    "too_long",
+    "short",
+    "blocks",
+    "check",
+    "header",
+    "row",
+    "unused",
+    "wide_17",
+    "wide_63",
+    "wide_64",
+    "wide_65",
+    "longer",
+    "late",
+    "form_2_two",
+    "form_2_three",
+    "form_2_51",
+    "form_2_64",
+    "form_2_few",
+    "form_2_65",
+    "form_2_one_band",
+    "form_0",
+    "form_3",
+    "form_258",
+    "form_2_check",
+    "form_2_past",
+    "form_2_past_later",
+    "form_2_mixed",
+    "form_1_mixed",
+    "form_2_blocks",
+    "form_1_blocks",
+    "form_2_unused",
+    "form_2_unused_gain",
+];
 
-fn wide<F: Files, W: Write, E: Write>(files: &F, to: &mut Streams<W, E>) -> io::Result<()> {
-    case(files, "wide_17", to)?;
-    case(files, "wide_63", to)?;
-    case(files, "wide_64", to)?;
-    case(files, "wide_65", to)?;
-    case(files, "longer", to)?;
-    case(files, "late", to)
-}
+const UNREADABLE: [&str; 2] = ["no_such_file", "."];
 
-fn form_2<F: Files, W: Write, E: Write>(files: &F, to: &mut Streams<W, E>) -> io::Result<()> {
-    case(files, "form_2_two", to)?;
-    case(files, "form_2_three", to)?;
-    case(files, "form_2_51", to)?;
-    case(files, "form_2_64", to)?;
-    case(files, "form_2_few", to)?;
-    case(files, "form_2_65", to)?;
-    case(files, "form_2_one_band", to)?;
-    case(files, "form_0", to)?;
-    case(files, "form_3", to)?;
-    case(files, "form_258", to)?;
-    case(files, "form_2_check", to)?;
-    case(files, "form_2_past", to)?;
-    case(files, "form_2_past_later", to)?;
-    case(files, "form_2_mixed", to)?;
-    case(files, "form_1_mixed", to)?;
-    case(files, "form_2_blocks", to)?;
-    case(files, "form_1_blocks", to)?;
-    case(files, "form_2_unused", to)?;
-    case(files, "form_2_unused_gain", to)
-}
-
-fn again<F: Files, W: Write, E: Write>(files: &F, to: &mut Streams<W, E>) -> io::Result<()> {
-    changed(files, "two_blocks", "changed_row", to)?;
-    changed(files, "two_blocks", "changed_first", to)?;
-    changed(files, "two_blocks", "one", to)?;
-    changed(files, "two_blocks", "cut", to)?;
-    changed(files, "two_blocks", "empty", to)?;
-    changed(files, "form_2_three", "form_1_three", to)?;
-    changed(files, "form_1_three", "form_2_three", to)?;
-    changed(files, "form_2_three", "form_2_mixed", to)?;
-    changed(files, "form_1_three", "form_1_mixed", to)
-}
+// What a reading finds first, and what the next one finds.
+const CHANGED: [(&str, &str); 9] = [
+    ("two_blocks", "changed_row"),
+    ("two_blocks", "changed_first"),
+    ("two_blocks", "one"),
+    ("two_blocks", "cut"),
+    ("two_blocks", "empty"),
+    ("form_2_three", "form_1_three"),
+    ("form_1_three", "form_2_three"),
+    ("form_2_three", "form_2_mixed"),
+    ("form_1_three", "form_1_mixed"),
+];
 
 fn main(rt: HostRuntime) -> io::Result<()> {
     let mut to = Streams {
         out: rt.stdout(),
         errors: rt.stderr(),
     };
-    sixteen(&rt, &mut to)?;
-    wide(&rt, &mut to)?;
-    form_2(&rt, &mut to)?;
-    unreadable(&rt, "no_such_file", &mut to)?;
-    unreadable(&rt, ".", &mut to)?;
-    again(&rt, &mut to)
+    for path in TABLES {
+        case(&rt, path, &mut to)?;
+    }
+    for path in UNREADABLE {
+        unreadable(&rt, path, &mut to)?;
+    }
+    for (first, second) in CHANGED {
+        changed(&rt, first, second, &mut to)?;
+    }
+    Ok(())
 }

@@ -3,129 +3,91 @@
 
 ghost use Rattle.std.specs.Prelude.{◌≡◌, ℕ, ◌+◌, ◌-◌, ◌*◌, ◌<◌, ◌≤◌, ◌++◌, length};
 ghost use Rattle.lists.specs.Lists.{tab};
-ghost use Rattle.digits.specs.Digits.{decimal_of, Wrote};
+ghost use Rattle.digits.specs.Digits.{decimal_of};
+ghost use Rattle.digits.specs.Text.{Added};
 ghost use Rattle.answer.specs.Limits.{parts, line_room, pair_room, block_room};
 ghost use Rattle.block.specs.Block.{blocks, row_gain};
 ghost use Rattle.block.specs.Read.{bytes_from, word_at};
-ghost use Rattle.block.specs.Asked.{Stores};
-ghost use Rattle.table.specs.Release.{form};
+ghost use Rattle.block.specs.Kind.{left_out};
+ghost use Rattle.table.specs.Release.{rules_of};
 ghost use Rattle.lister_core.specs.Lines.{space, pair_line, head_line, refused_line, row_line};
 ghost use Rattle.lister_core.specs.Lister.{block_lines_by};
-ghost use Rattle.lister_core.specs.Asked.{row_lines, Rows};
 
-use block::counts::held_in;
+use block::layout::Layout;
 use block::word::word_at;
-use digits::{put_number, put_text};
+use digits::Text;
 use rows::adding::last_gain;
 
-fn put_pair(word: &[u8], n: u64, between: &[u8], m: u64, at: usize, out: &mut [u8]) -> usize
-    requires { at + (length word.now + length between.now + 41) ≤ length out.old }
-    ensures { Wrote (pair_line word.now n between.now m) at out.old out.new result }
+fn put_pair(word: &[u8], n: u64, between: &[u8], m: u64, text: &mut Text)
+    requires { text.old.len + (length word.now + length between.now + 41) ≤ length text.old.bytes.now }
+    ensures { Added (pair_line word.now n between.now m) text.old text.new }
 {
-    let first = put_text(word, at, out);
-    let second = put_number(n, first, out);
-    let third = put_text(between, second, out);
-    let fourth = put_number(m, third, out);
-    put_text(b"\n", fourth, out)
+    text.put_text(word);
+    text.put_number(n);
+    text.put_text(between);
+    text.put_number(m);
+    text.put_text(b"\n");
 }
 
 // `bands B rows N`
-pub fn put_head(bands: usize, rows: usize, at: usize, out: &mut [u8]) -> usize
-    requires { at + pair_room ≤ length out.old }
-    ensures { Wrote (head_line bands rows) at out.old out.new result }
+pub fn put_head(bands: usize, rows: usize, text: &mut Text)
+    requires { text.old.len + pair_room ≤ length text.old.bytes.now }
+    ensures { Added (head_line bands rows) text.old text.new }
 {
-    put_pair(b"bands ", bands as u64, b" rows ", rows as u64, at, out)
+    put_pair(b"bands ", bands as u64, b" rows ", rows as u64, text);
 }
 
 // `refused NUMBER PLACE`
-pub fn put_refused(number: u8, place: usize, at: usize, out: &mut [u8]) -> usize
-    requires { at + pair_room ≤ length out.old }
-    ensures { Wrote (refused_line number place) at out.old out.new result }
+pub fn put_refused(number: u8, place: usize, text: &mut Text)
+    requires { text.old.len + pair_room ≤ length text.old.bytes.now }
+    ensures { Added (refused_line number place) text.old text.new }
 {
-    put_pair(b"refused ", number as u64, b" ", place as u64, at, out)
+    put_pair(b"refused ", number as u64, b" ", place as u64, text);
 }
 
 // A space and a gain, at most six bytes.
-fn put_gain(gain: u16, at: usize, out: &mut [u8]) -> usize
-    requires { at + 6 ≤ length out.old }
-    ensures text { Wrote (space ++ decimal_of gain) at out.old out.new result }
-    ensures short { result ≤ at + 6 }
+fn put_gain(gain: u16, text: &mut Text)
+    requires { text.old.len + 6 ≤ length text.old.bytes.now }
+    ensures text { Added (space ++ decimal_of gain) text.old text.new }
+    ensures short { text.new.len ≤ text.old.len + 6 }
 {
-    let next = put_text(b" ", at, out);
-    put_number(gain as u64, next, out)
+    text.put_text(b" ");
+    text.put_number(gain as u64);
 }
 
-// Gain j of a row whose stored gains, as many as width, stand in a block's bytes from first on.
-fn gain_in(bytes: &[u8], first: usize, width: usize, j: usize) -> u16
-    requires { (length bytes.now ≡ 512) × (first + 2 * width ≤ 508) × (width ≤ 250) }
-    ensures { result ≡ row_gain parts width (λ (i : ℕ). word_at (bytes_from bytes.now 0) (first + 2 * i)) 0 j }
+// Gain j of a row whose stored gains, as many as width, stand in a block from byte `first` on.
+fn gain_in(block: &[u8], first: usize, width: usize, j: usize) -> u16
+    requires { (length block.now ≡ 512) × (first + 2 * width ≤ 508) × (width ≤ 250) }
+    ensures { result ≡ row_gain parts width (λ (i : ℕ). word_at (bytes_from block.now 0) (first + 2 * i)) 0 j }
 {
     if j < width {
-        return word_at(bytes, 0, first + 2 * j) as u16;
+        return word_at(block, first + 2 * j) as u16;
     }
-    last_gain(bytes, 0, first, width)
+    last_gain(block, first, width)
 }
 
 // A row's line: its number, then its gains.
-fn put_row(
-    row: usize,
-    bytes: &[u8],
-    first: usize,
-    width: usize,
-    bands: usize,
-    at: usize,
-    out: &mut [u8],
-) -> usize
-    requires { (row ≤ 65535) × (bands ≤ 250) × (length bytes.now ≡ 512) × (first + 2 * width ≤ 508) × (width ≤ bands) × (at + line_room bands ≤ length out.old) }
-    ensures text { Wrote (row_line row (tab (row_gain parts width (λ (i : ℕ). word_at (bytes_from bytes.now 0) (first + 2 * i)) 0) bands)) at out.old out.new result }
-    ensures short { result ≤ at + line_room bands }
+fn put_row(t: Layout, row: usize, block: &[u8], first: usize, text: &mut Text)
+    requires { (row ≤ 65535) × (length block.now ≡ 512) × (first + 2 * (t.bands - left_out t.form) ≤ 508) × (text.old.len + line_room t.bands ≤ length text.old.bytes.now) }
+    ensures text { Added (row_line row (tab (row_gain parts (t.bands - left_out t.form) (λ (i : ℕ). word_at (bytes_from block.now 0) (first + 2 * i)) 0) t.bands)) text.old text.new }
+    ensures short { text.new.len ≤ text.old.len + line_room t.bands }
 {
-    let mut next = put_number(row as u64, at, out);
-    let mut j = 0;
-    while j < bands {
-        let gain = gain_in(bytes, first, width, j);
-        next = put_gain(gain, next, out);
-        j += 1;
+    let width = t.width();
+    text.put_number(row as u64);
+    for j in 0..t.bands {
+        put_gain(gain_in(block, first, width, j), text);
     }
-    put_text(b"\n", next, out)
+    text.put_text(b"\n");
 }
 
-// The lines of a block's first n rows, which are the table's from start on.
-fn put_rows(
-    start: usize,
-    n: usize,
-    width: usize,
-    bands: usize,
-    bytes: &[u8],
-    out: &mut [u8],
-) -> usize
-    requires { Rows start n width bands × (length bytes.now ≡ 512) × (block_room ≤ length out.old) }
-    ensures { Wrote (row_lines width bands start (bytes_from bytes.now 0) n) 0 out.old out.new result }
+// The lines of block k of a table.
+pub fn put_block(t: Layout, k: usize, block: &[u8], text: &mut Text)
+    requires { (k < blocks (t.bands - left_out t.form) t.rows) × (length block.now ≡ 512) × (text.old.len + block_room ≤ length text.old.bytes.now) }
+    ensures { Added (block_lines_by (rules_of t.form) t.bands t.rows (bytes_from block.now 0) k) text.old text.new }
 {
-    let mut next: usize = 0;
-    let mut q = 0;
-    let mut p = 8;
-    while q < n {
-        next = put_row(start + q, bytes, p, width, bands, next, out);
-        q += 1;
-        p += 2 * width;
+    let width = t.width();
+    let start = k * t.per_block();
+    for q in 0..t.held(k) {
+        put_row(t, start + q, block, 8 + 2 * (q * width), text);
     }
-    next
-}
-
-// The lines of block k of a table of so many bands and rows, whose form leaves out drop gains of a row.
-pub fn put_block(
-    drop: usize,
-    bands: usize,
-    rows: usize,
-    k: usize,
-    bytes: &[u8],
-    out: &mut [u8],
-) -> usize
-    requires { Stores (bands - drop) bands rows × (drop ≤ 1) × (k < blocks (bands - drop) rows) × (length bytes.now ≡ 512) × (block_room ≤ length out.old) }
-    ensures { Wrote (block_lines_by (form drop) bands rows (bytes_from bytes.now 0) k) 0 out.old out.new result }
-{
-    let width = bands - drop;
-    let n = held_in(width, rows, k);
-    put_rows(k * (250 / width), n, width, bands, bytes, out)
 }

@@ -17,7 +17,7 @@ use Rattle.block.proofs.Cut.{block_byte_law}
 use Rattle.block.proofs.Given.{given_same}
 use Rattle.table.proofs.Readable.{Reads, reads_known, reads_many}
 use Rattle.table_facts.proofs.Gains.{row_there}
-use Rattle.table_facts.proofs.Part.{gain_same}
+use Rattle.table.proofs.Part.{gain_same}
 use Rattle.lister_core.specs.Lines.{head_line, row_line}
 use Rattle.lister_core.specs.Lister.{table_text, block_lines_by}
 

@@ -9,18 +9,20 @@ use lib.ListN.{length, take, drop, length-append}
 use lib.Seq.{take_all, take-append-le}
 use Rattle.lists.proofs.Join.{join_same}
 use Rattle.answer.specs.Limits.{band_limit, table_limit}
-use Rattle.answer.specs.declared.Answer.{Answer}
-use Rattle.answer.specs.declared.Answer.TheVariants.{Done, Refused}
+use Rattle.answer.specs.Answer.{Answer}
+use Rattle.std.specs.Prelude.{Ok, Err}
 use Rattle.digits.specs.Digits.{written, put_out, put_next}
 use Rattle.digits.proofs.Written.{put_done, put_not, written_length, written_front}
 use Rattle.block.specs.Block.{blocks}
 use Rattle.block.specs.Read.{bytes_from, bands_of, rows_of, block_of}
 use Rattle.block.specs.Asked.{Stores}
+use Rattle.block.specs.Kind.{left_out}
 use Rattle.block.proofs.Cut.{block_cut}
 use Rattle.block.proofs.Shape.{few_bytes}
+use Rattle.block.proofs.Tests.{left_out_small}
 use Rattle.table.specs.Table.{table_told_of, table_with, shape_of}
-use Rattle.table.specs.Release.{form, drop_in, form_of, table_answer}
-use Rattle.table.proofs.Forms.{sound, drop_small}
+use Rattle.table.specs.Release.{form, rules_of, drop_in, form_of, table_answer}
+use Rattle.table.proofs.Forms.{sound}
 use Rattle.table.proofs.Readable.{Reads, judged_reads, reads_known}
 use Rattle.judging.specs.declared.Judging.{Judging}
 use Rattle.judging.specs.Judging.{new_judging, fed_of, finished, fed_to}
@@ -111,24 +113,24 @@ kept_last j i held (x ∷ xs) at h l e =
 
 -- ---- a table that was judged whole, and is held whole
 pub record Ready (j : Judging) (n : ℕ) : Type 0 where
-  pub stores : Stores (j.bands - j.drop) j.bands j.rows
-  pub want : j.want ≡ blocks (j.bands - j.drop) j.rows
+  pub stores : Stores (j.bands - left_out j.form) j.bands j.rows
+  pub want : j.want ≡ blocks (j.bands - left_out j.form) j.rows
   pub room : 512 * j.want ≤ n
 
-module _ (j : Judging) (held : List ℕ) (h : Kept j held) (room : table_limit ≤ length held) (d : Done ≡ finished j) where
+module _ (j : Judging) (held : List ℕ) (h : Kept j held) (room : table_limit ≤ length held) (d : (Ok tt) ≡ finished j) where
   abbrev s : List ℕ
   s = h.input
 
-  answer : Done ≡ table_answer s
+  answer : (Ok tt) ≡ table_answer s
   answer = d ∙ ap finished h.fed ∙ judged_by_blocks s
 
   shape : (j.bands ≡ bands_of (bytes_from s 0)) × (j.rows ≡ rows_of (bytes_from s 0))
-      × (j.want ≡ blocks ((form_of s).width (bands_of (bytes_from s 0))) (rows_of (bytes_from s 0))) × (j.drop ≡ drop_in (bytes_from s 0))
+      × (j.want ≡ blocks ((form_of s).width (bands_of (bytes_from s 0))) (rows_of (bytes_from s 0))) × (left_out j.form ≡ drop_in (bytes_from s 0))
   shape =
       let x = shape_is s answer in
-      (ap (λ (y : Judging). y.bands) h.fed ∙ x.0, ap (λ (y : Judging). y.rows) h.fed ∙ x.1, ap (λ (y : Judging). y.want) h.fed ∙ x.2, ap (λ (y : Judging). y.drop) h.fed ∙ x.3)
+      (ap (λ (y : Judging). y.bands) h.fed ∙ x.0, ap (λ (y : Judging). y.rows) h.fed ∙ x.1, ap (λ (y : Judging). y.want) h.fed ∙ x.2, ap (λ (y : Judging). left_out y.form) h.fed ∙ x.3)
 
-  table : Reads (form j.drop) s j.bands j.rows
+  table : Reads (rules_of j.form) s j.bands j.rows
   table =
       subst (λ (x : ℕ). Reads (form x) s j.bands j.rows) (sym shape.3)
       (judged_reads (form_of s) s j.bands j.rows
@@ -138,17 +140,14 @@ module _ (j : Judging) (held : List ℕ) (h : Kept j held) (room : table_limit �
       at_values : {b c n m : ℕ} → b ≡ c → n ≡ m → ◌≡◌ {A = ℕ × ℕ × ℕ × ℕ} (0, 0, b, n) (0, 0, c, m)
       at_values p q = rw (p, q) refl
 
-  want : j.want ≡ blocks (j.bands - j.drop) j.rows
+  want : j.want ≡ blocks (j.bands - left_out j.form) j.rows
   want = shape.2 ∙ ap₂ blocks (ap₂ ◌-◌ (sym shape.0) (sym shape.3)) (sym shape.1)
 
-  found : j.drop ≤ 1
-  found = omega (arith, shape.3, drop_small (bytes_from s 0))
-
   few : 512 * j.want ≤ table_limit
-  few = omega (arith, want, few_bytes (j.bands - j.drop) band_limit j.rows (omega (arith, table.shape.some)) (omega (arith, table.shape.most)) (omega arith) table.shape.last)
+  few = omega (arith, want, few_bytes (j.bands - left_out j.form) band_limit j.rows (omega (arith, table.shape.some)) (omega (arith, table.shape.most)) (omega arith) table.shape.last)
 
   pub ready : Ready j (length held)
-  ready = record { stores = (reads_known (sound j.drop found) table).stores; want = want; room = omega (arith, few) }
+  ready = record { stores = (reads_known (sound (left_out j.form) (left_out_small j.form)) table).stores; want = want; room = omega (arith, few) }
 
   held_blocks : (k : ℕ) → k < j.want → block_of held k ≡ block_of s k
   held_blocks k l =
@@ -159,7 +158,7 @@ module _ (j : Judging) (held : List ℕ) (h : Kept j held) (room : table_limit �
   unfolding text_by_blocks
   held_text =
       ap (λ (t : List ℕ). head_line j.bands j.rows ++ t)
-      (join_same _ _ j.want (λ k l. ap (λ (b : List ℕ). block_lines_by (form j.drop) j.bands j.rows (bytes_from b 0) k) (held_blocks k l)))
+      (join_same _ _ j.want (λ k l. ap (λ (b : List ℕ). block_lines_by (rules_of j.form) j.bands j.rows (bytes_from b 0) k) (held_blocks k l)))
 
 pub held_shows : HeldShows
 held_shows j held h room = go (finished j) refl ∙ whole
@@ -168,5 +167,5 @@ held_shows j held h room = go (finished j) refl ∙ whole
     whole = ap (λ (x : Judging). shown (finished x) x h.input) h.fed ∙ listed_by_blocks h.input
 
     go : (a : Answer) → a ≡ finished j → shown a j held ≡ shown a j h.input
-    go Done e = held_text j held h room e
-    go (Refused r) e = refl
+    go (Ok tt) e = held_text j held h room e
+    go (Err r) e = refl

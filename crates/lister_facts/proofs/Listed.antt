@@ -5,8 +5,8 @@ use mathlib.Core.List.{List}
 use native.Mathlib.Omega.{arith}
 use borrow.Author.Tests.{ne_eqb}
 use Rattle.answer.specs.Answer.{class_of, where_of}
-use Rattle.answer.specs.declared.Answer.{Answer}
-use Rattle.answer.specs.declared.Answer.TheVariants.{Done, Refused}
+use Rattle.answer.specs.Answer.{Answer}
+use Rattle.std.specs.Prelude.{Ok, Err}
 use Rattle.answer.proofs.Numbers as numbers
 use Rattle.block.specs.Read.{bytes_from, bands_of, rows_of}
 use Rattle.table.specs.Table.{table_told_of, table_with, shape_of}
@@ -33,10 +33,10 @@ unfolding listed_by text_by_blocks
 listed_by_blocks s = ap (λ a. shown a (fed_all s) s) (judged_by_blocks s) ∙ go (table_answer s) refl
   where
     go : (a : Answer) → a ≡ table_answer s → shown a (fed_all s) s ≡ answer_text (table_told_of (table_with a (shape_of (bytes_from s 0)))) (table_gains s)
-    go Done e =
+    go (Ok tt) e =
         let B = bands_of (bytes_from s 0) in
         let N = rows_of (bytes_from s 0) in
         let h = shape_is s e in
         let t : table_told s ≡ (0, 0, B, N) = sym (ap (λ a. table_told_of (table_with a (shape_of (bytes_from s 0)))) e) in
         rw (h.0, h.1, h.2, h.3) (text_is (sound_in (bytes_from s 0)) s B N (judged_reads (form_of s) s B N t) ∙ table_text_law B N (table_gains s))
-    go (Refused r) e = refused_text (class_of r) (where_of r) 0 0 (table_gains s) (numbers.listed r).0
+    go (Err r) e = refused_text (class_of r) (where_of r) 0 0 (table_gains s) (numbers.listed r).0

@@ -1,104 +1,79 @@
 // A table read a second time: judged at the first reading and shown at the second, each block judged again before its lines.
-ghost use Rattle.std.specs.Prelude.{◌≡◌, true, ◌≤◌, length};
-ghost use Rattle.answer.specs.Answer.{is_done, judged};
-ghost use Rattle.answer.specs.Limits.{block_room};
-ghost use Rattle.answer.specs.declared.Answer.TheVariants.{Done};
-ghost use Rattle.block.specs.Read.{bytes_from, block_tests_by};
-ghost use Rattle.table.specs.Release.{form};
+ghost use Rattle.std.specs.Prelude.{◌≡◌, ◌-◌, ◌<◌, length};
+ghost use Rattle.std.specs.Result.{IfOk};
+ghost use Rattle.block.specs.Block.{blocks};
+ghost use Rattle.block.specs.Kind.{left_out};
 
-use crate::{refuse, say, show_block};
-use answer::{Answer, Refusal, is_done};
-use judged_input::judge_input;
-use judging::{Judging, finish};
+use crate::listing::Listing;
+use answer::Refusal;
+use block::layout::Layout;
+use judging::Judging;
+use std::io;
 use std::io::{Read, Seek, SeekFrom, Write};
-use system::{Streams, read_full};
+use system::read_full;
 
-// The next block, judged as block k; 9 where the reader has no whole one.
+// The next block, judged as block k of such a table; 9 where the reader has no whole one.
 fn next_block<R: Read>(
     from: &mut R,
-    drop: usize,
-    bands: usize,
-    rows: usize,
+    j: Judging,
     k: usize,
     block: &mut [u8],
-) -> Answer
-    requires { (length block.old ≡ 512) × (drop ≤ 1) }
-    ensures { is_done result ≡ true → Done ≡ judged (block_tests_by (form drop) bands rows (bytes_from block.new 0) k) }
+) -> Result<Layout, Refusal>
+    requires { length block.old ≡ 512 }
+    ensures { IfOk result (λ t. k < blocks (t.bands - left_out t.form) t.rows) }
 {
     if read_full(from, block) != 512 {
-        return Answer::Refused(Refusal::StoredLength);
+        return Err(Refusal::StoredLength);
     }
-    table::judge::block(block, 0, k, drop, bands, rows)
+    table::judge::block(block, k, j.form, j.bands, j.rows)?;
+    Ok(Layout {
+        form: j.form,
+        bands: j.bands,
+        rows: j.rows,
+    })
 }
 
 // Block k did not pass this time: the one line of its refusal where nothing was written yet, else a line on standard error.
-fn stopped<W: Write, E: Write>(a: Answer, k: usize, text: &mut [u8], to: &mut Streams<W, E>)
-    requires { block_room ≤ length text.old }
-{
+fn stopped<W: Write, E: Write>(
+    why: Refusal,
+    k: usize,
+    listing: &mut Listing<'_, W, E>,
+) -> io::Result<()> {
     if k == 0 {
-        refuse(a, text, to);
-        return;
+        return listing.refuse(why);
     }
-    say(b"lister: the file changed while it was read\n", to);
+    listing
+        .to
+        .errors
+        .write_all(b"lister: the file changed while it was read\n")
 }
 
 // Shows a table that is read again, up to the first block that does not pass this time or cannot be written.
 fn show_again<R: Read, W: Write, E: Write>(
     from: &mut R,
-    drop: usize,
-    bands: usize,
-    rows: usize,
-    want: usize,
-    block: &mut [u8],
-    text: &mut [u8],
-    to: &mut Streams<W, E>,
-)
-    requires { (length block.old ≡ 512) × (drop ≤ 1) × (block_room ≤ length text.old) }
-{
-    let mut k = 0;
-    while k < want {
-        let a = next_block(from, drop, bands, rows, k, block);
-        if !is_done(a) {
-            stopped(a, k, text, to);
-            return;
+    j: Judging,
+    listing: &mut Listing<'_, W, E>,
+) -> io::Result<()> {
+    let mut block = [0u8; 512];
+    for k in 0..j.want {
+        match next_block(from, j, k, &mut block) {
+            Ok(t) => listing.show_block(t, k, &block)?,
+            Err(why) => return stopped(why, k, listing),
         }
-        if !show_block(drop, bands, rows, k, block, text, to) {
-            return;
-        }
-        k += 1;
     }
+    Ok(())
 }
 
 // Shows a table of which the first reading was judged, by the second, from its beginning. What cannot go back there is read on, and judged as any
 // second reading is.
-pub(super) fn list_again<S: Read + Seek, W: Write, E: Write>(
+pub fn list_again<S: Read + Seek, W: Write, E: Write>(
     j: Judging,
     second: &mut S,
-    block: &mut [u8],
-    text: &mut [u8],
-    to: &mut Streams<W, E>,
-)
-    requires { (length block.old ≡ 512) × (j.drop ≤ 1) × (block_room ≤ length text.old) }
-{
-    let a = finish(j);
-    if !is_done(a) {
-        refuse(a, text, to);
-        return;
+    listing: &mut Listing<'_, W, E>,
+) -> io::Result<()> {
+    if let Err(why) = j.finish() {
+        return listing.refuse(why);
     }
     let _ = second.seek(SeekFrom::Start(0));
-    show_again(second, j.drop, j.bands, j.rows, j.want, block, text, to);
-}
-
-pub(super) fn list_twice<R: Read, S: Read + Seek, W: Write, E: Write>(
-    first: &mut R,
-    second: &mut S,
-    none: &mut [u8],
-    block: &mut [u8],
-    text: &mut [u8],
-    to: &mut Streams<W, E>,
-)
-    requires { (length block.old ≡ 512) × (block_room ≤ length text.old) }
-{
-    let j = judge_input(first, none, &mut to.errors);
-    list_again(j, second, block, text, to);
+    show_again(second, j, listing)
 }

@@ -1,31 +1,27 @@
--- An ordered fold, `foldl`, in a loop: what is left of the fold from the value held at place i is the whole fold. Assumes nothing.
-use Prim.Native.Nat.{ℕ, zero, suc, ◌+◌, ◌-◌, ◌≤◌, ◌<◌, suc-le-suc}
+-- An ordered fold, `foldl`: in a loop over the elements so far, in two parts, what it keeps and shows, and as an iterator's `fold`. Assumes nothing.
+use Prim.Native.Nat.{ℕ, zero, suc, ◌+◌, ◌<◌, suc-le-suc}
 use native.Mathlib.Nat.{zero-lt-suc, not-suc-le-zero, le_of_suc-le-suc}
-use mathlib.Core.Path.{◌≡◌, sym, ap, ap₂, ◌∙◌}
-use mathlib.Core.List.{List, [], ◌∷◌, foldl, foldl-append}
-use native.Mathlib.Numerals.{add-one}
-use native.Mathlib.Omega.{arith}
-use lib.ListN.{length, get_or, take, drop, drop_of_length-le, take-append-drop}
-use lib.Seq.{drop-cons, drop-drop}
+use mathlib.Core.Path.{◌≡◌, refl, sym, ap, ◌∙◌}
+use mathlib.Core.List.{List, [], ◌∷◌, ◌++◌, foldl, foldl-append}
+use lib.ListN.{length, get_or, take, drop, take-append-drop}
+use denote.Param.Members.{Mut}
+use denote.Ref.{Bor}
+use Rattle.std.specs.Fn.{Called}
+use Rattle.std.specs.Iterator.{FoldsItems}
+use Rattle.std.specs.declared.slice.Iter.{Iter}
+use Rattle.std.proofs.lemmas.List.{take_more}
+use Rattle.std.proofs.lemmas.Fn.{fold_over, slice_gives, fronts}
 
 module _ {A B : Type 0} (f : B → A → B) where
-  -- a turn of the loop
-  pub fold_more : (s : List A) (z : A) (i : ℕ) (held next : B) → i < length s → next ≡ f held (get_or s i z)
-      → foldl f next (drop (i + 1) s) ≡ foldl f held (drop i s)
-  fold_more s z i held next h e = rw (drop-cons s i z h, add-one, e)
+  -- a turn of a loop over the elements so far
+  pub fold_turn : (s : List A) (z : A) (i : ℕ) (from held next : B) → i < length s → held ≡ foldl f from (take i s) → next ≡ f held (get_or s i z)
+      → next ≡ foldl f from (take (i + 1) s)
+  fold_turn s z i from held next h e g =
+      rw (take_more s i z h, foldl-append f from (take i s) (get_or s i z ∷ []), sym e) g
 
-  -- a turn that takes the elements from i to j at once
-  pub fold_run : (s : List A) (i j : ℕ) (held next : B) → i ≤ j → next ≡ foldl f held (take (j - i) (drop i s))
-      → foldl f next (drop j s) ≡ foldl f held (drop i s)
-  fold_run s i j held next h e =
-      let run = take (j - i) (drop i s) in
-      let k : i + (j - i) ≡ j = omega arith in
-      let after : drop j s ≡ drop (j - i) (drop i s) = ap (λ n. drop n s) (sym k) ∙ sym (drop-drop (j - i) i s) in
-      ap₂ (foldl f) e after ∙ sym (foldl-append f held run (drop (j - i) (drop i s))) ∙ ap (foldl f held) (take-append-drop (j - i) (drop i s))
-
-  -- the loop has come to the end
-  pub fold_end : (s : List A) (i : ℕ) (held : B) → length s ≤ i → held ≡ foldl f held (drop i s)
-  fold_end s i held h = rw (drop_of_length-le s h)
+  -- the first n at once, then the others
+  pub fold_parted : (s : List A) (n : ℕ) (held : B) → foldl f (foldl f held (take n s)) (drop n s) ≡ foldl f held s
+  fold_parted s n held = sym (foldl-append f held (take n s) (drop n s)) ∙ ap (foldl f held) (take-append-drop n s)
 
   -- what holds of the start and is kept by every element that has Q holds of the whole fold
   pub fold_keeps : (P : B → Type 0) (Q : A → Type 0) → ((b : B) (x : A) → P b → Q x → P (f b x)) → (z : A) (s : List A)
@@ -47,3 +43,14 @@ module _ {A B : Type 0} (f : B → A → B) where
           → (i : ℕ) → i < length (x ∷ s) → Q (get_or (x ∷ s) i z)
       step Q z x s q r zero h = q
       step Q z x s q r (suc i) h = r i (le_of_suc-le-suc h)
+
+-- what an iterator's `fold` over a slice answers, where its closure computes h
+pub slice_fold : {A B F : Type 0} {g : Mut F (B × (Bor A × Unit {0})) B} {f : F} (h : B → A → B) (s : Iter A) (a r : B) (xs : List A) → s.rest.now ≡ xs
+    → ((b : B) (x : Bor A) (d : B) (f' : F) → Called g f (b, (x, tt)) d f' → (d ≡ h b x.now) × (f' ≡ f))
+    → FoldsItems fronts g s f a r → r ≡ foldl h a xs
+slice_fold {A} {B} {F} {g} {f} h s a r xs e k ran =
+    rw (sym e) (fold_over fronts (λ y. y.now) g (λ ys b. b ≡ foldl h a ys) f step s s.rest.now a r (slice_gives s) refl ran)
+  where
+    step : (ys : List A) (b : B) (x : Bor A) (d : B) (f' : F) → b ≡ foldl h a ys → Called g f (b, (x, tt)) d f'
+        → (d ≡ foldl h a (ys ++ (x.now ∷ []))) × (f' ≡ f)
+    step ys b x d f' e c = let t = k b x d f' c in (t.0 ∙ ap (λ w. h w x.now) e ∙ sym (foldl-append h a ys (x.now ∷ [])), t.1)

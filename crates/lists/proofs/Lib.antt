@@ -6,3 +6,5 @@ pub mod Placed
 pub mod Fold
 pub mod Tests
 pub mod Join
+pub mod Turns
+pub mod Found

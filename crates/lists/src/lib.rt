@@ -1,2 +1,5 @@
-// Lists by index: definitions in specs/, laws in proofs/. No code: the crates above write their own loops and cite these.
+// Lists by index: definitions in specs/, laws in proofs/. Loops over slices that the crates above share.
 #![tactic(auto)]
+
+pub mod each;
+pub mod search;

@@ -4,8 +4,7 @@ ghost use Rattle.pack.specs.Pack.{packed};
 ghost use Rattle.masoritun.specs.Masoritun.{meter_at, left_of};
 ghost use Rattle.meter.specs.Meter.{feed_of, fed_told};
 
-use answer::Answer;
-use meter::{Fed, Meter};
+use meter::Meter;
 use pack::pack;
 
 #[unsafe(no_mangle)]
@@ -28,9 +27,8 @@ pub extern "C" fn mst_meter_feed(
         least: *least,
         largest: *largest,
     };
-    let fed = held.feed(src);
-    match fed {
-        Fed::Next(next) => {
+    match held.feed(src) {
+        Ok(next) => {
             *count = next.count;
             *overs = next.overs;
             *sum_squares = next.sum_squares;
@@ -38,6 +36,6 @@ pub extern "C" fn mst_meter_feed(
             *largest = next.largest;
             0
         }
-        Fed::Refused(why) => pack(Answer::Refused(why)),
+        Err(why) => pack(Err(why)),
     }
 }

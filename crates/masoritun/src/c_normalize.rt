@@ -2,10 +2,17 @@
 ghost use Rattle.std.specs.Prelude.{◌≡◌};
 ghost use Rattle.masoritun.specs.Masoritun.{settings_at};
 ghost use Rattle.pack.specs.Pack.{packed};
-ghost use Rattle.normalize.specs.Normalize.{normalize_told, normalize_out, in_place_told, in_place_out};
+ghost use Rattle.normalize.specs.Normalize.{normalize_told, normalize_out, in_place_told, in_place_out, Shows};
 
 use normalize::Settings;
 use pack::pack;
+
+// The slice, where the caller says that there is one.
+fn present(has: bool, slice: &[f32]) -> Option<&[f32]>
+    ensures { Shows result has slice.now }
+{
+    if has { Some(slice) } else { None }
+}
 
 #[unsafe(no_mangle)]
 pub extern "C" fn mst_normalize(
@@ -32,15 +39,9 @@ pub extern "C" fn mst_normalize(
         scale,
         bias,
     };
-    pack(normalize::normalize(
-        settings,
-        has_scale,
-        element_scale,
-        has_bias,
-        element_bias,
-        src,
-        dst,
-    ))
+    let scales = present(has_scale, element_scale);
+    let biases = present(has_bias, element_bias);
+    pack(normalize::normalize(settings, scales, biases, src, dst))
 }
 
 #[unsafe(no_mangle)]
@@ -67,12 +68,7 @@ pub extern "C" fn mst_normalize_in_place(
         scale,
         bias,
     };
-    pack(normalize::normalize_in_place(
-        settings,
-        has_scale,
-        element_scale,
-        has_bias,
-        element_bias,
-        buf,
-    ))
+    let scales = present(has_scale, element_scale);
+    let biases = present(has_bias, element_bias);
+    pack(normalize::normalize_in_place(settings, scales, biases, buf))
 }

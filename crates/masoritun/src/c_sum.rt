@@ -4,17 +4,14 @@ ghost use Rattle.pack.specs.Pack.{packed};
 ghost use Rattle.sum.specs.Sum.{add_up_told};
 ghost use Rattle.sum.specs.declared.SumOp.TheVariants.{Sum, SumSquare, SumAbs, SumSquareSub, SumExpSub};
 
-use pack::pack;
+use crate::value::give;
 use sum::{SumOp, add_up};
 
 fn run(op: SumOp, src: &[f32], res: &mut f32) -> u64
     ensures told { result ≡ packed (add_up_told op src.now).0 }
     ensures value { res.new ≡ (add_up_told op src.now).1 }
 {
-    let total = add_up(op, src);
-    *res = total.value;
-    let answer = total.answer;
-    pack(answer)
+    give(add_up(op, src), res)
 }
 
 #[unsafe(no_mangle)]

@@ -4,9 +4,7 @@ ghost use Rattle.pack.specs.Pack.{packed, when_zero};
 ghost use Rattle.table.specs.Release.{write_told, write_out, block_told, read_told, read_out};
 ghost use Rattle.moving.specs.Moving.{move_told, move_out};
 
-use answer::Answer;
 use pack::pack;
-use table::{BlockAnswer, TableAnswer};
 
 #[unsafe(no_mangle)]
 pub extern "C" fn mst_table_write(bands: u32, rows: u32, gains: &[u16], bytes: &mut [u8]) -> u64
@@ -30,14 +28,13 @@ pub extern "C" fn mst_table_read(
     ensures rows { rows.new
         ≡ when_zero (read_told bytes.now gains.old).0 (read_told bytes.now gains.old).3 rows.old }
 {
-    let answer = table::read(bytes, gains);
-    match answer {
-        TableAnswer::Table(shape) => {
+    match table::read(bytes, gains) {
+        Ok(shape) => {
             *bands = shape.bands;
             *rows = shape.rows;
             0
         }
-        TableAnswer::Refused(why) => pack(Answer::Refused(why)),
+        Err(why) => pack(Err(why)),
     }
 }
 
@@ -56,16 +53,15 @@ pub extern "C" fn mst_table_read_block(
     ensures rows { rows.new ≡ when_zero (block_told number bytes.now).0 (block_told number bytes.now).5 rows.old }
     ensures held { held.new ≡ when_zero (block_told number bytes.now).0 (block_told number bytes.now).6 held.old }
 {
-    let answer = table::read_block(number, bytes);
-    match answer {
-        BlockAnswer::Block(header) => {
+    match table::read_block(number, bytes) {
+        Ok(header) => {
             *form = header.form;
             *bands = header.bands;
             *rows = header.rows;
             *held = header.held;
             0
         }
-        BlockAnswer::Refused(why) => pack(Answer::Refused(why)),
+        Err(why) => pack(Err(why)),
     }
 }
 

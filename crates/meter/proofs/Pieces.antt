@@ -12,10 +12,10 @@ use Rattle.min_max.proofs.Fold.{extreme_append, extreme_none}
 use Rattle.sum.proofs.Fold.{sum_append, sum_none}
 use Rattle.meter.specs.Meter.{next_of, feed_all}
 use Rattle.meter.specs.declared.Meter.{Meter}
-use Rattle.meter.specs.declared.Fed.TheVariants.{Next}
 use Rattle.meter.specs.Claims.{TwoPieces, AllPieces}
 use Rattle.meter.proofs.Feed.{Accepted, accepts, accepted}
 use Rattle.meter.proofs.Overs.{overs_append, overs_none}
+use Rattle.std.specs.Prelude.{Ok}
 use Rattle.meter.proofs.Sound.{next_sound}
 
 -- the next meter's next one is the joined feeding's
@@ -54,12 +54,12 @@ two_pieces m n s t e =
     let a = accepted m (s ++ t) n e in (
       next_of m s,
       sym (accepts m s (first_accepted m s t a.0)),
-      sym (accepts (next_of m s) t (second_accepted m s t a.0)) ∙ ap Next (sym (a.1 ∙ next_append m s t)),
+      sym (accepts (next_of m s) t (second_accepted m s t a.0)) ∙ ap Ok (sym (a.1 ∙ next_append m s t)),
     )
 
 pub all_pieces : AllPieces
 unfolding flatten feed_all
-all_pieces m n [] e = ap Next (sym ((accepted m [] n e).1 ∙ next_none m))
+all_pieces m n [] e = ap Ok (sym ((accepted m [] n e).1 ∙ next_none m))
 all_pieces m n (s ∷ pieces) e =
     let p = two_pieces m n s (flatten pieces) e in
     rw p.1 (all_pieces p.0 n pieces p.2)

@@ -6,12 +6,12 @@ use borrow.Author.Tests.{ltb-true, ltb-false}
 use lib.Ieee.{Float}
 use lib.ListN.{length}
 use Rattle.answer.specs.Answer.{judged, place_of}
-use Rattle.answer.specs.declared.Answer.{Answer}
-use Rattle.answer.specs.declared.Answer.TheVariants.{Done, Refused as No}
+use Rattle.answer.specs.Answer.{Answer}
 use Rattle.answer.specs.Limits.{element_limit}
 use Rattle.answer.proofs.Bounded.{place_bounded}
 use Rattle.floats.specs.Floats.{first_not_finite}
 use Rattle.meter.specs.Meter.{tests, next_of, fed_by, feed_of, fed_told}
+use Rattle.std.specs.Prelude.{Ok, Err}
 use Rattle.meter.specs.declared.Meter.{Meter}
 
 pub feed_place : (m : Meter) (s : List Float) → (fed_told (feed_of m s)).0.1 ≤ element_limit
@@ -30,5 +30,5 @@ feed_place m s =
     ))
   where
     go : (a : Answer) → place_of a ≤ element_limit → (fed_told (fed_by a (next_of m s))).0.1 ≤ element_limit
-    go Done h = h
-    go (No r) h = h
+    go (Ok tt) h = h
+    go (Err r) h = h

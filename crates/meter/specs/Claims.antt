@@ -3,31 +3,31 @@ use Rattle.std.specs.Prelude.{◌≤◌, ◌≡◌, true, false, Float, length}
 use mathlib.Core.List.{List, ◌++◌, flatten}
 use Rattle.floats.specs.Values.{f32}
 use Rattle.meter.specs.Meter.{is_over, overs_in, new_meter, feed_of, feed_all}
+use Rattle.std.specs.Prelude.{Ok}
 use Rattle.meter.specs.declared.Meter.{Meter}
-use Rattle.meter.specs.declared.Fed.TheVariants.{Next}
 
 -- where the joined feeding isn't refused, neither piece is, and feeding them in order gives its meter
 abbrev pub TwoPieces : Type 0
 TwoPieces =
     (m n : Meter) (s t : List Float)
-    → feed_of m (s ++ t) ≡ Next n
-    → (k : Meter) × (feed_of m s ≡ Next k) × (feed_of k t ≡ Next n)
+    → feed_of m (s ++ t) ≡ Ok n
+    → (k : Meter) × (feed_of m s ≡ Ok k) × (feed_of k t ≡ Ok n)
 
 -- so for any number of pieces
 abbrev pub AllPieces : Type 0
-AllPieces = (m n : Meter) (pieces : List (List Float)) → feed_of m (flatten pieces) ≡ Next n → feed_all m pieces ≡ Next n
+AllPieces = (m n : Meter) (pieces : List (List Float)) → feed_of m (flatten pieces) ≡ Ok n → feed_all m pieces ≡ Ok n
 
 -- the count is the number of samples fed, over any number of feedings that are not refused
 abbrev pub CountIsFed : Type 0
-CountIsFed = (n : Meter) (pieces : List (List Float)) → feed_all new_meter pieces ≡ Next n → n.count ≡ length (flatten pieces)
+CountIsFed = (n : Meter) (pieces : List (List Float)) → feed_all new_meter pieces ≡ Ok n → n.count ≡ length (flatten pieces)
 
 -- and the overs are the number of such samples among them
 abbrev pub OversAreFed : Type 0
-OversAreFed = (n : Meter) (pieces : List (List Float)) → feed_all new_meter pieces ≡ Next n → n.overs ≡ overs_in (flatten pieces)
+OversAreFed = (n : Meter) (pieces : List (List Float)) → feed_all new_meter pieces ≡ Ok n → n.overs ≡ overs_in (flatten pieces)
 
 -- never more than the count, in a meter that feedings reach from a new one
 abbrev pub OversCounted : Type 0
-OversCounted = (n : Meter) (pieces : List (List Float)) → feed_all new_meter pieces ≡ Next n → n.overs ≤ n.count
+OversCounted = (n : Meter) (pieces : List (List Float)) → feed_all new_meter pieces ≡ Ok n → n.overs ≤ n.count
 
 -- by hand: 1.0 and -1.0 are overs; the f32 next below them in size, -0 and the largest subnormal are not
 abbrev pub FullScale : Type 0

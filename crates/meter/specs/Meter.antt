@@ -6,17 +6,20 @@ use Rattle.std.specs.Float.Ieee.{lt, le, is_nan}
 use Rattle.lists.specs.Lists.{sum_to, bit}
 use Rattle.answer.specs.Answer.{Test, judged, told_of}
 use Rattle.answer.specs.Limits.{element_limit}
-use Rattle.answer.specs.declared.Answer.{Answer}
-use Rattle.answer.specs.declared.Answer.TheVariants.{Done, Refused as No}
+use Rattle.answer.specs.Answer.{Answer}
+use Rattle.answer.specs.declared.Refusal.{Refusal}
 use Rattle.answer.specs.declared.Refusal.TheVariants.{TooMany, NotFinite, Domain}
 use Rattle.floats.specs.Values.{zero_f, one_f}
 use Rattle.min_max.specs.MinMax.{least_from, largest_from}
 use Rattle.floats.specs.Floats.{abs_of, first_not_finite}
 use Rattle.sum.specs.Sum.{sum_from}
 use Rattle.sum.specs.declared.SumOp.TheVariants.{SumSquare}
+use Rattle.std.specs.Prelude.{Result, Ok, Err}
 use Rattle.meter.specs.declared.Meter.{Meter}
-use Rattle.meter.specs.declared.Fed.{Fed}
-use Rattle.meter.specs.declared.Fed.TheVariants.{Next, Refused}
+
+-- what a feeding hands back: the next meter, or why it is refused
+abbrev pub Fed : Type 0
+Fed = Result Meter Refusal
 
 abbrev pub count_limit : ℕ
 count_limit = 4294967295
@@ -62,8 +65,8 @@ tests m s =
 
 -- the meter where none holds, the refusal where one does
 abbrev pub fed_by : Answer → Meter → Fed
-fed_by Done m = Next m
-fed_by (No r) m = Refused r
+fed_by (Ok tt) m = Ok m
+fed_by (Err r) m = Err r
 
 unfoldable pub feed_of : Meter → List Float → Fed
 feed_of m s = fed_by (judged (tests m s)) (next_of m s)
@@ -73,14 +76,14 @@ abbrev pub values_of : Meter → ℕ × ℕ × Float × Float × Float
 values_of m = (m.count, m.overs, m.sum_squares, m.least, m.largest)
 
 abbrev pub fed_told : Fed → (ℕ × ℕ) × Option (ℕ × ℕ × Float × Float × Float)
-fed_told (Next m) = (told_of Done, some (values_of m))
-fed_told (Refused r) = (told_of (No r), none)
+fed_told (Ok m) = (told_of (Ok tt), some (values_of m))
+fed_told (Err r) = (told_of (Err r), none)
 
 -- feedings that chain: each into the meter that the one before it handed back, up to the first refusal
 abbrev pub onward : Fed → (Meter → Fed) → Fed
-onward (Next m) then = then m
-onward (Refused r) then = Refused r
+onward (Ok m) then = then m
+onward (Err r) then = Err r
 
 unfoldable pub feed_all : Meter → List (List Float) → Fed
-feed_all m [] = Next m
+feed_all m [] = Ok m
 feed_all m (s ∷ pieces) = onward (feed_of m s) (λ next. feed_all next pieces)

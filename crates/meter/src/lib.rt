@@ -10,7 +10,7 @@ ghost use Rattle.meter.specs.Meter.{is_over, overs_in, sound_meter, new_meter, f
 
 use answer::Refusal;
 use answer::limits::ELEMENT_LIMIT;
-use floats::bits::is_finite;
+use floats::bits::{infinity, is_finite};
 use floats::scan::first_unless_shown;
 use min_max::look;
 
@@ -29,66 +29,33 @@ pub struct Meter {
     pub largest: f32,
 }
 
-#[derive(Clone, Copy)]
-pub enum Fed {
-    Next(Meter),
-    Refused(Refusal),
-}
-
-// No float of the meter is a NaN, which is unlike itself, its sum of squares is not below zero, and it has no more overs than samples.
-fn is_sound(m: Meter) -> bool
-    ensures { result ≡ sound_meter m }
-{
-    let numbers = (m.sum_squares == m.sum_squares)
-        & (m.least == m.least)
-        & (m.largest == m.largest);
-    let not_below = !(m.sum_squares < 0.0);
-    let few_overs = m.overs <= m.count;
-    numbers & not_below & few_overs
-}
-
 // 1 for an over, else 0. The compiler makes one comparison of the two.
 fn over(x: f32) -> u32
-    ensures over { result ≡ bit (is_over x) }
-    ensures small { result ≤ 1 }
+    ensures { result ≡ bit (is_over x) }
 {
-    if (x >= FULL_SCALE) | (x <= -FULL_SCALE) {
-        1
-    } else {
-        0
-    }
-}
-
-// What one pass adds up.
-#[derive(Clone, Copy)]
-struct Sums {
-    squares: f32,
-    overs: u32,
+    u32::from((x >= FULL_SCALE) | (x <= -FULL_SCALE))
 }
 
 // The squares from a held sum on, and the overs. An addition waits for the one before it, so counting beside it takes no time of its own.
-fn added(held: f32, src: &[f32]) -> Sums
+fn added(held: f32, src: &[f32]) -> (f32, u32)
     requires { length src.now ≤ element_limit }
-    ensures squares { result.squares ≡ sum_from SumSquare held src.now }
-    ensures overs { result.overs ≡ overs_in src.now }
+    ensures squares { result.0 ≡ sum_from SumSquare held src.now }
+    ensures overs { result.1 ≡ overs_in src.now }
 {
     let mut squares = held;
     let mut overs = 0;
-    let mut i = 0;
-    while i < src.len() {
-        let x = src[i];
-        squares = x * x + squares;
-        overs += over(x);
-        i += 1;
+    for x in src {
+        squares = *x * *x + squares;
+        overs += over(*x);
     }
-    Sums { squares, overs }
+    (squares, overs)
 }
 
 impl Meter {
     pub fn new() -> Meter
         ensures { result ≡ new_meter }
     {
-        let top = floats::bits::infinity();
+        let top = infinity();
         Meter {
             count: 0,
             overs: 0,
@@ -98,31 +65,41 @@ impl Meter {
         }
     }
 
-    pub fn feed(self, src: &[f32]) -> Fed
+    // No float of the meter is a NaN, which is unlike itself, its sum of squares is not below zero, and it has no more overs than samples.
+    fn is_sound(self) -> bool
+        ensures { result ≡ sound_meter self }
+    {
+        let numbers = (self.sum_squares == self.sum_squares)
+            & (self.least == self.least)
+            & (self.largest == self.largest);
+        let not_below = !(self.sum_squares < 0.0);
+        let few_overs = self.overs <= self.count;
+        numbers & not_below & few_overs
+    }
+
+    pub fn feed(self, src: &[f32]) -> Result<Meter, Refusal>
         ensures { fed_told result ≡ fed_told (feed_of self src.now) }
     {
         if src.len() > ELEMENT_LIMIT {
-            return Fed::Refused(Refusal::TooMany);
+            return Err(Refusal::TooMany);
         }
         let samples = src.len() as u32;
-        let count = self.count;
-        if count > COUNT_LIMIT - samples {
-            return Fed::Refused(Refusal::TooMany);
+        if self.count > COUNT_LIMIT - samples {
+            return Err(Refusal::TooMany);
         }
-        if !is_sound(self) {
-            return Fed::Refused(Refusal::NotFinite);
+        if !self.is_sound() {
+            return Err(Refusal::NotFinite);
         }
-        let sums = added(self.sum_squares, src);
+        let (squares, overs) = added(self.sum_squares, src);
         // a finite sum of squares shows finite samples
-        let bad = first_unless_shown(is_finite(sums.squares), src);
-        if bad < src.len() {
-            return Fed::Refused(Refusal::Domain(bad));
+        if let Some(bad) = first_unless_shown(is_finite(squares), src) {
+            return Err(Refusal::Domain(bad));
         }
         let seen = look(self.least, self.largest, src);
-        Fed::Next(Meter {
-            count: count + samples,
-            overs: self.overs + sums.overs,
-            sum_squares: sums.squares,
+        Ok(Meter {
+            count: self.count + samples,
+            overs: self.overs + overs,
+            sum_squares: squares,
             least: seen.least,
             largest: seen.largest,
         })

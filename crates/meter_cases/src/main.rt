@@ -4,89 +4,57 @@
 // squares, least and largest. The last line says how many cases there were. tools/meter_cases.py makes both files.
 #![tactic(auto)]
 
-ghost use Rattle.std.specs.Prelude.{◌≡◌, ◌≤◌, length};
-
-use answer::{Answer, number, place};
-use floats::bits::{from_pattern, pattern};
-use hex_words::{floats_at, places, word};
-use meter::{Fed, Meter};
+use answer::Answer;
+use hex_words::cases::whole_cases;
+use hex_words::lines::{floats, told};
+use hex_words::words::{Word, Words};
+use meter::Meter;
 use std::io;
 use std::io::Write;
-use system::read_full;
-
-fn show_float<W: Write>(x: f32, out: &mut W) -> io::Result<()> {
-    let word = pattern(x);
-    write!(out, " {word:08x}")
-}
+use system::read_in;
 
 fn show<W: Write>(answer: Answer, m: Meter, out: &mut W) -> io::Result<()> {
-    let (number, place) = (number(answer), place(answer));
+    told(answer, out)?;
     let (count, overs) = (m.count, m.overs);
-    write!(out, "{number} {place} {count} {overs}")?;
-    show_float(m.sum_squares, out)?;
-    show_float(m.least, out)?;
-    show_float(m.largest, out)?;
+    write!(out, " {count} {overs}")?;
+    floats(&[m.sum_squares, m.least, m.largest], out)?;
     writeln!(out, "")
 }
 
-// The next meter, or the held one where the feeding is refused; either way a line.
-fn feed<W: Write>(held: Meter, src: &[f32], out: &mut W) -> io::Result<Meter> {
-    match held.feed(src) {
-        Fed::Next(next) => {
-            show(Answer::Done, next, out)?;
-            Ok(next)
-        }
-        Fed::Refused(why) => {
-            show(Answer::Refused(why), held, out)?;
-            Ok(held)
-        }
-    }
-}
-
-fn meter_at(text: &[u8], at: usize, held: Meter) -> Meter
-    requires { at ≤ 65536 }
-{
-    if word(text, at) == 1 {
-        return held;
-    }
+fn meter_of(words: &mut Words<'_>) -> Meter {
     Meter {
-        count: word(text, at + 1),
-        overs: word(text, at + 2),
-        sum_squares: from_pattern(word(text, at + 3)),
-        least: from_pattern(word(text, at + 4)),
-        largest: from_pattern(word(text, at + 5)),
+        count: words.word(),
+        overs: words.word(),
+        sum_squares: words.float(),
+        least: words.float(),
+        largest: words.float(),
     }
 }
 
-fn samples(text: &[u8], from: usize) -> [f32; 16385]
-    requires { from ≤ 131072 }
-    ensures { 16385 ≡ length result }
-{
-    let mut out = [1.0f32; 16385];
-    floats_at(text, from, &mut out[..12]);
-    out
-}
-
-fn case<W: Write>(text: &[u8], at: usize, held: Meter, out: &mut W) -> io::Result<Meter>
-    requires { at ≤ 65536 }
-{
+// The next meter, or the held one where the feeding is refused; either way a line.
+fn show_case<W: Write>(case: &[Word; 19], held: Meter, out: &mut W) -> io::Result<Meter> {
+    let mut words = Words { rest: case };
+    let goes_on = words.word() == 1;
+    let given = meter_of(&mut words);
+    let before = if goes_on { held } else { given };
     // There is room for 16,385.
-    let n = word(text, at + 6) as usize % 16386;
-    let src = samples(text, at + 7);
-    feed(meter_at(text, at, held), &src[..n], out)
-}
-
-fn run<W: Write>(text: &[u8], out: &mut W) -> io::Result<()> {
-    let cases = places(text) / 19;
-    let mut held = Meter::new();
-    for i in 0..cases {
-        held = case(text, i * 19, held, out)?;
-    }
-    writeln!(out, "{cases} cases")
+    let n = words.word() as usize % 16386;
+    let mut src = [1.0f32; 16385];
+    words.fill(&mut src[..12]);
+    let fed = before.feed(&src[..n]);
+    let left = fed.unwrap_or(before);
+    show(fed.map(|_| ()), left, out)?;
+    Ok(left)
 }
 
 fn main(rt: HostRuntime) -> io::Result<()> {
+    let mut out = rt.stdout();
     let mut text = [0u8; 65536];
-    let n = read_full(&mut rt.stdin(), &mut text);
-    run(&text[..n], &mut rt.stdout())
+    let cases = whole_cases::<19>(read_in(&mut rt.stdin(), &mut text));
+    let mut held = Meter::new();
+    for case in cases {
+        held = show_case(case, held, &mut out)?;
+    }
+    let count = cases.len();
+    writeln!(out, "{count} cases")
 }

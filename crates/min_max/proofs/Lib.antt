@@ -2,8 +2,9 @@ pub mod Fold
 pub mod Sides
 pub mod Joined
 pub mod Reached
-pub mod Runs
 pub mod Determined
 pub mod Empty
 pub mod Taken
 pub mod Place
+pub mod Runs
+pub mod HeldLaws

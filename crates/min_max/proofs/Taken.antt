@@ -9,7 +9,7 @@ use lib.ListN.{length}
 use Rattle.lists.proofs.First.{first_clear}
 use Rattle.floats.specs.Each.{Each}
 use Rattle.answer.specs.Limits.{element_limit}
-use Rattle.answer.specs.declared.Answer.TheVariants.{Done}
+use Rattle.std.specs.Prelude.{Ok}
 use Rattle.answer.proofs.Chain.{gives, clear, skip, opened, none_found}
 use Rattle.min_max.specs.MinMax.{extremes_answer}
 
@@ -21,11 +21,11 @@ pub record Taken (s : List Float) : Type 0 where
   pub few : length s ≤ element_limit
   pub domain : Each InDomain s
 
-pub takes : (s : List Float) → Taken s → Done ≡ extremes_answer s
+pub takes : (s : List Float) → Taken s → (Ok tt) ≡ extremes_answer s
 unfolding extremes_answer
 takes s t = gives (skip (le-ltb _ _ t.few) (none_found t.domain clear))
 
-pub taken : (s : List Float) → Done ≡ extremes_answer s → Taken s
+pub taken : (s : List Float) → (Ok tt) ≡ extremes_answer s → Taken s
 unfolding extremes_answer
 taken s d =
     let a = opened _ _ _ d in

@@ -1,16 +1,16 @@
 -- min_max.rs over one lane: the extremes as ordered folds, their domain, and what the three calls tell. Definitions only.
-use Rattle.std.specs.Prelude.{ℕ, Bool, true, false, not, cond, ltb, Float, length, get_or}
+use Rattle.std.specs.Prelude.{ℕ, Bool, true, false, not, cond, ltb, Float, length, get_or, Result, Ok, Err}
 use mathlib.Core.List.{List, [], ◌∷◌, foldl}
 use Rattle.std.specs.Float.{nan, inf}
 use Rattle.std.specs.Float.Ieee.{lt, is_nan}
 use Rattle.lists.specs.Lists.{first_not}
-use Rattle.answer.specs.Answer.{Test, judged, told_of, told_with}
+use Rattle.answer.specs.Answer.{Test, class_of, where_of, judged, told_with, value_told}
 use Rattle.answer.specs.Limits.{element_limit}
-use Rattle.answer.specs.declared.Answer.{Answer}
+use Rattle.answer.specs.Answer.{Answer}
+use Rattle.answer.specs.declared.Refusal.{Refusal}
 use Rattle.answer.specs.declared.Refusal.TheVariants.{TooMany, Domain}
 use Rattle.floats.specs.Values.{zero_f}
 use Rattle.min_max.specs.declared.Extremes.{Extremes}
-use Rattle.min_max.specs.declared.Extreme.{Extreme}
 
 -- the two sides
 pub data Side : Type 0 where
@@ -58,12 +58,16 @@ tests s = (ltb element_limit (length s), TooMany) ∷ (ltb (first_nan s) (length
 unfoldable pub extremes_answer : List Float → Answer
 extremes_answer s = judged (tests s)
 
--- what an answer tells: its number and place, and its values
-abbrev pub extremes_told : Extremes → (ℕ × ℕ) × (Float × Float)
-extremes_told r = (told_of r.answer, (r.least, r.largest))
+-- what an answer tells: its number and place, and its values, +0 for each where it is refused
+abbrev pub values_of : Extremes → Float × Float
+values_of e = (e.least, e.largest)
 
-abbrev pub extreme_told : Extreme → (ℕ × ℕ) × Float
-extreme_told r = (told_of r.answer, r.value)
+abbrev pub extremes_told : Result Extremes Refusal → (ℕ × ℕ) × (Float × Float)
+extremes_told (Ok e) = ((0, 0), values_of e)
+extremes_told (Err r) = ((class_of r, where_of r), (zero_f, zero_f))
+
+abbrev pub extreme_told : Result Float Refusal → (ℕ × ℕ) × Float
+extreme_told r = value_told zero_f r
 
 -- what each call tells: the extremes, +0 for each number where it is refused
 abbrev pub min_max_told : List Float → (ℕ × ℕ) × (Float × Float)

@@ -8,7 +8,7 @@ use lib.ListN.{length, length-append, length-map}
 use lib.Ieee.{Float}
 use lib.Ieee.Bits.{is_true}
 use Rattle.answer.specs.Answer.{told_with}
-use Rattle.answer.specs.declared.Answer.TheVariants.{Done}
+use Rattle.std.specs.Prelude.{Ok}
 use Rattle.answer.proofs.Told.{part_told}
 use Rattle.floats.specs.Values.{zero_f}
 use Rattle.floats.specs.Each.{Each}
@@ -19,7 +19,7 @@ use Rattle.min_max_facts.specs.MinMaxFacts.{JoinedCall, EachDone, ChunksDone, si
 use Rattle.min_max_facts.proofs.Grouping.{two_pieces, all_chunks, answer_is_number}
 
 -- a call that is done tells the extremes
-done_told : (s : List Float) → Done ≡ extremes_answer s → min_max_told s ≡ ((0, 0), (extreme_of Least s, extreme_of Largest s))
+done_told : (s : List Float) → (Ok tt) ≡ extremes_answer s → min_max_told s ≡ ((0, 0), (extreme_of Least s, extreme_of Largest s))
 done_told s d = sym (ap (λ a. told_with a (extreme_of Least s, extreme_of Largest s) (zero_f, zero_f)) d)
 
 pub joined_call : JoinedCall
@@ -47,7 +47,7 @@ one_side s =
     let a = extremes_answer s in
     (part_told (λ (v : Float × Float). v.0) _ _ a a _ refl, part_told (λ (v : Float × Float). v.1) _ _ a a _ refl)
 
-side_done : (side : Side) (s : List Float) → Done ≡ extremes_answer s → side_told side s ≡ ((0, 0), extreme_of side s)
+side_done : (side : Side) (s : List Float) → (Ok tt) ≡ extremes_answer s → side_told side s ≡ ((0, 0), extreme_of side s)
 side_done Least s d = ap (λ v. (v.0, v.1.0)) (done_told s d)
 side_done Largest s d = ap (λ v. (v.0, v.1.1)) (done_told s d)
 

@@ -5,7 +5,7 @@ use mathlib.Core.List.{List, [], ◌∷◌, ◌++◌, map, flatten}
 use Rattle.std.specs.Float.{binary32}
 use Rattle.std.specs.Float.Ieee.{fits, eq, is_nan}
 use Rattle.answer.specs.Limits.{element_limit}
-use Rattle.answer.specs.declared.Answer.TheVariants.{Done}
+use Rattle.std.specs.Prelude.{Ok}
 use Rattle.floats.specs.Values.{f32, zero_f}
 use Rattle.floats.specs.Each.{Each, Some}
 use Rattle.min_max.specs.MinMax.{Side, Least, Largest, keep, extreme_of, extremes_answer, min_max_told, max_num_told, min_num_told}
@@ -73,15 +73,15 @@ joined a b = (keep Least a.0 b.0, keep Largest a.1 b.1)
 abbrev pub JoinedCall : Type 0
 JoinedCall =
     (s t : List Float)
-    → Done ≡ extremes_answer (s ++ t)
-    → (Done ≡ extremes_answer s) × (Done ≡ extremes_answer t) × (min_max_told (s ++ t) ≡ ((0, 0), joined (min_max_told s).1 (min_max_told t).1))
+    → (Ok tt) ≡ extremes_answer (s ++ t)
+    → ((Ok tt) ≡ extremes_answer s) × ((Ok tt) ≡ extremes_answer t) × (min_max_told (s ++ t) ≡ ((0, 0), joined (min_max_told s).1 (min_max_told t).1))
 
 -- no chunk's call is refused
 abbrev pub EachDone : List (List Float) → Type 0
-EachDone chunks = (i : ℕ) → i < length chunks → Done ≡ extremes_answer (get_or chunks i [])
+EachDone chunks = (i : ℕ) → i < length chunks → (Ok tt) ≡ extremes_answer (get_or chunks i [])
 
 abbrev pub ChunksDone : Type 0
-ChunksDone = (chunks : List (List Float)) → Done ≡ extremes_answer (flatten chunks) → EachDone chunks
+ChunksDone = (chunks : List (List Float)) → (Ok tt) ≡ extremes_answer (flatten chunks) → EachDone chunks
 
 -- what `min_max` tells, with one side's value alone; `min_num` and `max_num` tell the same
 abbrev pub side_told : Side → List Float → (ℕ × ℕ) × Float

@@ -2,7 +2,7 @@
 use Prim.Native.Nat.{ℕ}
 use mathlib.Core.Path.{◌≡◌, sym, ◌∙◌}
 use mathlib.Core.List.{List}
-use Rattle.answer.specs.declared.Answer.{Answer}
+use Rattle.answer.specs.Answer.{Answer}
 use Rattle.answer.specs.Answer.{Outcome}
 use Rattle.answer.proofs.Outcome.{one_outcome}
 use Rattle.moving.specs.Moving.{move_told, move_out, length_in}

@@ -1,6 +1,6 @@
 -- The length of a table by its form's number, at each of the ways out. Assumes nothing.
-use Prim.Native.Nat.{ℕ, ◌-◌, ◌*◌, ◌≤◌}
-use mathlib.Core.Path.{◌≡◌, refl, ap}
+use Prim.Native.Nat.{ℕ, ◌+◌, ◌-◌, ◌*◌, ◌≤◌}
+use mathlib.Core.Path.{◌≡◌, refl}
 use mathlib.Core.Bool.{true, false, ◌||◌}
 use native.Mathlib.Decide.{dec_lt}
 use native.Mathlib.Omega.{arith}
@@ -17,20 +17,23 @@ module _ (number B N : ℕ) where
   unfolding length_in
   no_form a b = rw (ne_eqb number 1 a, ne_eqb number 2 b) refl
 
-  -- 1 or 2
-  either : 1 ≤ number → number ≤ 2 → (eqb number 1 || eqb number 2) ≡ true
-  either l h = elim (dec_lt number 2) [
-    | yes m ↦ let z : number ≡ 1 = omega arith in rw z refl
-    | no m ↦ let z : number ≡ 2 = omega arith in rw z refl
-  ]
+  -- 1 or 2, whose form leaves out d
+  module _ (d : ℕ) (is : number ≡ 1 + d) (few : d ≤ 1) where
+    either : (eqb number 1 || eqb number 2) ≡ true
+    either = elim (dec_lt number 2) [
+      | yes m ↦ let z : number ≡ 1 = omega arith in rw z refl
+      | no m ↦ let z : number ≡ 2 = omega arith in rw z refl
+    ]
 
-  -- and bands or rows outside
-  pub no_shape : 1 ≤ number → number ≤ 2 → shape_ok_by (form (number - 1)) B N ≡ false → 0 ≡ length_in number B N
-  unfolding length_in
-  no_shape l h e = rw (either l h, e) refl
+    less : number - 1 ≡ d
+    less = omega (arith, is)
 
-  -- or inside
-  pub length_is : (n : ℕ) → 1 ≤ number → number ≤ 2 → shape_ok_by (form (number - 1)) B N ≡ true → n ≡ blocks (B - (number - 1)) N
-      → 512 * n ≡ length_in number B N
-  unfolding length_in
-  length_is n l h e m = rw (either l h, e) (ap (λ (x : ℕ). 512 * x) m)
+    -- and bands or rows outside
+    pub no_shape : shape_ok_by (form d) B N ≡ false → 0 ≡ length_in number B N
+    unfolding length_in
+    no_shape e = rw (either, less, e) refl
+
+    -- or inside
+    pub length_is : (n : ℕ) → shape_ok_by (form d) B N ≡ true → n ≡ 512 * blocks (B - d) N → n ≡ length_in number B N
+    unfolding length_in
+    length_is n e m = rw (either, less, e) m

@@ -12,7 +12,7 @@ use Rattle.answer.specs.Answer.{judged, or_else, told_of, when_done}
 use Rattle.answer.specs.Limits.{parts}
 use Rattle.answer.specs.declared.Refusal.{Refusal}
 use Rattle.answer.specs.declared.Refusal.TheVariants.{OneBand, StoredLength}
-use Rattle.answer.specs.declared.Answer.TheVariants.{Done, Refused}
+use Rattle.std.specs.Prelude.{Ok, Err}
 use Rattle.answer.proofs.Chain.{gives, stop, skip, clear}
 use Rattle.block.specs.Block.{per_block, blocks, held_rows, given, table_byte, table_bytes}
 use Rattle.block.specs.Read.{bytes_from, bands_of, rows_of, gain_at}
@@ -62,12 +62,12 @@ target_stores s d e B N k l =
     }
 
 -- the answer, from its parts
-pub table_refuses : (d : ℕ) (s : List ℕ) (room : ℕ) (r : Refusal) → Refused r ≡ table_answer s → Refused r ≡ move_answer d s room
+pub table_refuses : (d : ℕ) (s : List ℕ) (room : ℕ) (r : Refusal) → Err r ≡ table_answer s → Err r ≡ move_answer d s room
 table_refuses d s room r e = ap (λ a. or_else a (judged (move_tests d s room))) e
 
 -- where the table passes, by the bands and rows that were read of it and the blocks n that were counted for the result
-module _ (d : ℕ) (s : List ℕ) (room B N : ℕ) (done : Done ≡ table_answer s) (p : B ≡ bands_of (bytes_from s 0)) (q : N ≡ rows_of (bytes_from s 0)) where
-  pub few_refuse : B ≤ d → Refused OneBand ≡ move_answer d s room
+module _ (d : ℕ) (s : List ℕ) (room B N : ℕ) (done : (Ok tt) ≡ table_answer s) (p : B ≡ bands_of (bytes_from s 0)) (q : N ≡ rows_of (bytes_from s 0)) where
+  pub few_refuse : B ≤ d → Err OneBand ≡ move_answer d s room
   unfolding move_tests
   few_refuse l = rw (← done) (gives (stop (lt-ltb (bands_of (bytes_from s 0)) (1 + d) (omega arith))))
 
@@ -75,12 +75,12 @@ module _ (d : ℕ) (s : List ℕ) (room B N : ℕ) (done : Done ≡ table_answer
     needed : 512 * n ≡ 512 * blocks (bands_of (bytes_from s 0) - d) (rows_of (bytes_from s 0))
     needed = ap (λ (x : ℕ). 512 * x) (e ∙ rw (p, q) refl)
 
-    pub room_refuses : (room ≡ 512 * n → ⊥) → Refused StoredLength ≡ move_answer d s room
+    pub room_refuses : (room ≡ 512 * n → ⊥) → Err StoredLength ≡ move_answer d s room
     unfolding move_tests
     room_refuses other =
         rw (← done) (gives (skip (le-ltb (bands_of (bytes_from s 0)) (1 + d) (omega arith)) (stop (ap not (ne_eqb room _ (λ z. other (z ∙ sym needed)))))))
 
-    pub move_done : room ≡ 512 * n → Done ≡ move_answer d s room
+    pub move_done : room ≡ 512 * n → (Ok tt) ≡ move_answer d s room
     unfolding move_tests
     move_done z = rw (← done) (gives (skip (le-ltb (bands_of (bytes_from s 0)) (1 + d) (omega arith)) (skip (ap not (eq-eqb room _ (z ∙ needed))) clear)))
 
@@ -96,10 +96,10 @@ moved_is d e s B N p n q r l m = rw (ne_eqb (drop_in (bytes_from s 0)) d (λ z. 
 
 -- and the two promises
 module _ (d : ℕ) (s result : List ℕ) where
-  pub move_refuses : (r : Refusal) → Refused r ≡ move_answer d s (length result)
-      → (told_of (Refused r) ≡ move_told d s result) × (result ≡ move_out d s result)
+  pub move_refuses : (r : Refusal) → Err r ≡ move_answer d s (length result)
+      → (told_of (Err r) ≡ move_told d s result) × (result ≡ move_out d s result)
   move_refuses r e = (ap told_of e, ap (λ a. when_done a (moved d s) result) e)
 
-  pub move_finishes : (l : List ℕ) → l ≡ moved d s → Done ≡ move_answer d s (length result)
-      → (told_of Done ≡ move_told d s result) × (l ≡ move_out d s result)
+  pub move_finishes : (l : List ℕ) → l ≡ moved d s → (Ok tt) ≡ move_answer d s (length result)
+      → (told_of (Ok tt) ≡ move_told d s result) × (l ≡ move_out d s result)
   move_finishes l n e = (ap told_of e, n ∙ ap (λ a. when_done a (moved d s) result) e)

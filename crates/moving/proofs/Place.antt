@@ -4,8 +4,8 @@ use mathlib.Core.List.{List}
 use native.Mathlib.Omega.{arith}
 use Rattle.answer.specs.Answer.{judged, or_else, place_of}
 use Rattle.answer.specs.Limits.{row_limit}
-use Rattle.answer.specs.declared.Answer.{Answer}
-use Rattle.answer.specs.declared.Answer.TheVariants.{Done, Refused}
+use Rattle.answer.specs.Answer.{Answer}
+use Rattle.std.specs.Prelude.{Ok, Err}
 use Rattle.answer.proofs.Bounded.{place_bounded}
 use Rattle.table.specs.Release.{form_of, table_answer}
 use Rattle.table.proofs.Place.{place_most, table_place}
@@ -19,5 +19,5 @@ pub move_place : (d : ℕ) (s : List ℕ) (room : ℕ) → place_of (move_answer
 move_place d s room = go (table_answer s) (table_place (form_of s) s)
   where
     go : (a : Answer) → place_of a ≤ place_most row_limit → place_of (or_else a (judged (move_tests d s room))) ≤ place_most row_limit
-    go Done h = tests_place d s room
-    go (Refused r) h = h
+    go (Ok tt) h = tests_place d s room
+    go (Err r) h = h

@@ -2,7 +2,7 @@
 -- lent result; and the length that it must have. Definitions only.
 use Rattle.std.specs.Prelude.{ℕ, ◌-◌, ◌*◌, Bool, not, cond, ◌&&◌, ◌||◌, List, [], ◌∷◌, length, ltb, eqb}
 use Rattle.answer.specs.Answer.{Test, judged, or_else, told_of, when_done}
-use Rattle.answer.specs.declared.Answer.{Answer}
+use Rattle.answer.specs.Answer.{Answer}
 use Rattle.answer.specs.declared.Refusal.TheVariants.{OneBand, StoredLength}
 use Rattle.block.specs.Block.{blocks, table_bytes}
 use Rattle.block.specs.Write.{shape_ok_by}

@@ -6,16 +6,19 @@ ghost use Rattle.answer.specs.Answer.{told_of};
 ghost use Rattle.moving.specs.Moving.{move_told, move_out, length_in};
 
 use answer::Answer;
-use block::counts::{blocks_of, shape_ok};
+use block::form::Form;
+use block::layout::Layout;
 
 mod moves;
 
-// Moves a table to form 1, or copies it if it has that form.
+pub use moves::to_form;
+
+// Moves a table to form 1, or copies it if it has that form. (C has a function for each form.)
 pub fn to_form_1(bytes: &[u8], res: &mut [u8]) -> Answer
     ensures told { told_of result ≡ move_told 0 bytes.now res.old }
     ensures written { res.new ≡ move_out 0 bytes.now res.old }
 {
-    moves::to_form(0, bytes, res)
+    to_form(Form::One, bytes, res)
 }
 
 // Moves a table to form 2, or copies it if it has that form.
@@ -23,22 +26,18 @@ pub fn to_form_2(bytes: &[u8], res: &mut [u8]) -> Answer
     ensures told { told_of result ≡ move_told 1 bytes.now res.old }
     ensures written { res.new ≡ move_out 1 bytes.now res.old }
 {
-    moves::to_form(1, bytes, res)
+    to_form(Form::Two, bytes, res)
 }
 
-// The bytes of a table of this form, bands and rows; 0 where there is no such table.
+// The bytes of a table of this form, bands and rows; 0 where there is no such table, as RULES has it (`Layout::length` tells those of one that is there).
 pub fn length_in(form: u32, bands: u32, rows: u32) -> usize
     ensures told { result ≡ length_in form bands rows }
 {
-    if form < 1 {
+    let Ok(form) = Form::try_from(form as usize) else {
         return 0;
+    };
+    match Layout::new(form, bands as usize, rows as usize) {
+        Some(t) => t.length(),
+        None => 0,
     }
-    if form > 2 {
-        return 0;
-    }
-    let drop = form as usize - 1;
-    if !shape_ok(1 + drop, bands as usize, rows as usize) {
-        return 0;
-    }
-    512 * blocks_of(bands as usize - drop, rows as usize)
 }

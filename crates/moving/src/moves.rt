@@ -1,90 +1,67 @@
-// The move to the form that leaves out drop gains of a row.
+// The move of a table to a form.
 ghost use Rattle.std.specs.Prelude.{◌≡◌, ◌+◌, ◌-◌, ◌*◌, ◌<◌, ◌≤◌, length};
 ghost use Rattle.lists.specs.Lists.{Placed};
 ghost use Rattle.answer.specs.Answer.{told_of};
 ghost use Rattle.block.specs.Block.{blocks, table_byte, table_bytes};
 ghost use Rattle.block.specs.Read.{bytes_from};
-ghost use Rattle.block.specs.Asked.{Stores};
+ghost use Rattle.block.specs.Kind.{left_out};
 ghost use Rattle.table.specs.Release.{drop_in, table_gains};
 ghost use Rattle.table.specs.Asked.{Known};
 ghost use Rattle.moving.specs.Moving.{move_told, move_out};
 
 use answer::{Answer, Refusal};
-use block::counts::{blocks_of, held_in};
+use block::form::Form;
+use block::layout::Layout;
 use block::store::write_block;
-use block::word::word_at;
 use rows::copying::copy_rows;
-use table::judge::{drop_in, table};
+use table::judge::table;
 
-fn copy(bytes: &[u8], res: &mut [u8])
-    requires { length res.old ≡ length bytes.now }
-    ensures { res.new ≡ bytes.now }
+// Block k of the result, from a table of the same bands and rows; its rows' gains go through those lent.
+fn move_block(from: Layout, to: Layout, k: usize, bytes: &[u8], gains: &mut [u16], res: &mut [u8])
+    requires known { Known bytes.now (from.bands - left_out from.form) from.bands from.rows × (left_out from.form ≡ drop_in (bytes_from bytes.now 0)) }
+    requires same { (to.bands ≡ from.bands) × (to.rows ≡ from.rows) }
+    requires room { (k < blocks (to.bands - left_out to.form) to.rows) × (500 ≤ length gains.old) × (512 * k + 512 ≤ length res.old) }
+    ensures { Placed 0 res.old res.new (512 * k) (512 * k + 512) (table_byte (1 + left_out to.form) (to.bands - left_out to.form) to.bands to.rows (table_gains bytes.now)) }
 {
-    let n = bytes.len();
-    let mut i = 0;
-    while i < n {
-        res[i] = bytes[i];
-        i += 1;
-    }
+    copy_rows(bytes, from, k * to.per_block(), to.held(k), gains);
+    let form = to.form.number() as u16;
+    write_block(form, to.width(), to.bands, to.rows, gains, k, res);
 }
 
-// Block k of the result, from a table whose form leaves out `from` gains of a row; its rows' gains go through those lent.
-fn move_block(
-    drop: usize,
-    from: usize,
-    bands: usize,
-    rows: usize,
-    k: usize,
-    bytes: &[u8],
-    gains: &mut [u16],
-    res: &mut [u8],
-)
-    requires known { Known bytes.now (bands - from) bands rows × (from ≡ drop_in (bytes_from bytes.now 0)) × (from ≤ 1) }
-    requires stores { Stores (bands - drop) bands rows × (drop ≤ 1) × (k < blocks (bands - drop) rows) × (500 ≤ length gains.old) × (512 * k + 512 ≤ length res.old) }
-    ensures { Placed 0 res.old res.new (512 * k) (512 * k + 512) (table_byte (1 + drop) (bands - drop) bands rows (table_gains bytes.now)) }
-{
-    let width = bands - drop;
-    let n = held_in(width, rows, k);
-    copy_rows(bytes, from, bands, k * (250 / width), n, gains);
-    write_block((1 + drop) as u16, width, bands, rows, gains, k, res);
-}
-
-fn move_all(drop: usize, from: usize, bands: usize, rows: usize, bytes: &[u8], res: &mut [u8])
-    requires known { Known bytes.now (bands - from) bands rows × (from ≡ drop_in (bytes_from bytes.now 0)) × (from ≤ 1) }
-    requires stores { Stores (bands - drop) bands rows × (drop ≤ 1) × (length res.old ≡ 512 * blocks (bands - drop) rows) }
-    ensures { res.new ≡ table_bytes (1 + drop) (bands - drop) bands rows (table_gains bytes.now) }
+fn move_all(from: Layout, to: Layout, bytes: &[u8], res: &mut [u8])
+    requires known { Known bytes.now (from.bands - left_out from.form) from.bands from.rows × (left_out from.form ≡ drop_in (bytes_from bytes.now 0)) }
+    requires same { (to.bands ≡ from.bands) × (to.rows ≡ from.rows) }
+    requires room { length res.old ≡ 512 * blocks (to.bands - left_out to.form) to.rows }
+    ensures { res.new ≡ table_bytes (1 + left_out to.form) (to.bands - left_out to.form) to.bands to.rows (table_gains bytes.now) }
 {
     // The most gains of a block's rows: 250 stored ones, and one more of each row.
     let mut gains = [0u16; 500];
-    let n = blocks_of(bands - drop, rows);
-    let mut k = 0;
-    while k < n {
-        move_block(drop, from, bands, rows, k, bytes, &mut gains, res);
-        k += 1;
+    for k in 0..to.blocks() {
+        move_block(from, to, k, bytes, &mut gains, res);
     }
 }
 
-pub fn to_form(drop: usize, bytes: &[u8], res: &mut [u8]) -> Answer
-    requires { drop ≤ 1 }
-    ensures told { told_of result ≡ move_told drop bytes.now res.old }
-    ensures written { res.new ≡ move_out drop bytes.now res.old }
+// Moves a table to this form, or copies it if it has that form.
+pub fn to_form(form: Form, bytes: &[u8], res: &mut [u8]) -> Answer
+    ensures told { told_of result ≡ move_told (left_out form) bytes.now res.old }
+    ensures written { res.new ≡ move_out (left_out form) bytes.now res.old }
 {
-    if let Answer::Refused(r) = table(bytes) {
-        return Answer::Refused(r);
+    let from = table(bytes)?;
+    if from.bands <= form.left_out() {
+        return Err(Refusal::OneBand);
     }
-    let from = drop_in(bytes);
-    let bands = word_at(bytes, 0, 4);
-    let rows = word_at(bytes, 0, 6);
-    if bands <= drop {
-        return Answer::Refused(Refusal::OneBand);
+    let to = Layout {
+        form,
+        bands: from.bands,
+        rows: from.rows,
+    };
+    if res.len() != to.length() {
+        return Err(Refusal::StoredLength);
     }
-    if res.len() != 512 * blocks_of(bands - drop, rows) {
-        return Answer::Refused(Refusal::StoredLength);
+    if from.form == form {
+        res.copy_from_slice(bytes);
+        return Ok(());
     }
-    if from == drop {
-        copy(bytes, res);
-        return Answer::Done;
-    }
-    move_all(drop, from, bands, rows, bytes, res);
-    Answer::Done
+    move_all(from, to, bytes, res);
+    Ok(())
 }

@@ -2,112 +2,80 @@
 // with none, number and place of the answer and, where it is done, the moved bytes. Tables and expected output come from tools/moving_cases.py.
 #![tactic(auto)]
 
-ghost use Rattle.std.specs.Prelude.{◌≡◌, length};
-ghost use Rattle.answer.specs.Limits.{table_limit};
-
 use answer::limits::TABLE_LIMIT;
-use answer::{Answer, is_done, number, place};
+use answer::{number, place};
+use block::form::Form;
 use block::word::word_at;
-use moving::{length_in, to_form_1, to_form_2};
+use moving::{length_in, to_form};
 use std::fs::File;
 use std::io;
 use std::io::Write;
 use std::rt::Files;
-use system::read_full;
+use system::read_in;
 
-fn buffer() -> [u8; TABLE_LIMIT]
-    ensures { table_limit ≡ length result }
-{
-    [0; TABLE_LIMIT]
-}
+const TABLES: [&str; 18] = [
+    "one_band",
+    "form_1",
+    "form_2",
+    "last_gain_0",
+    "wide_1",
+    "wide_2",
+    "wide_17",
+    "empty",
+    "short",
+    "few",
+    "check",
+    "mixed_1",
+    "mixed_2",
+    "form_3",
+    "one_band_2",
+    "past",
+    "not_whole",
+    "unused",
+];
 
-fn moved(form: u32, bytes: &[u8], res: &mut [u8]) -> Answer {
-    if form == 1 {
-        return to_form_1(bytes, res);
-    }
-    to_form_2(bytes, res)
-}
-
-fn tell<W: Write>(form: u32, bytes: &[u8], res: &mut [u8], out: &mut W) -> io::Result<()> {
-    let answer = moved(form, bytes, res);
-    let (number, place) = (number(answer), place(answer));
+fn tell<W: Write>(form: Form, bytes: &[u8], res: &mut [u8], out: &mut W) -> io::Result<()> {
+    let answer = to_form(form, bytes, res);
+    let (form, number, place) = (form.number(), number(answer), place(answer));
     writeln!(out, "{form} {number} {place}")?;
-    if is_done(answer) {
+    if answer.is_ok() {
         out.write_all(res)?;
     }
     Ok(())
 }
 
-fn needed(form: u32, bytes: &[u8]) -> usize {
+fn needed(form: Form, bytes: &[u8]) -> usize {
     if bytes.len() < 512 {
         return 0;
     }
     length_in(
-        form,
-        word_at(bytes, 0, 4) as u32,
-        word_at(bytes, 0, 6) as u32,
+        form.number() as u32,
+        word_at(bytes, 4) as u32,
+        word_at(bytes, 6) as u32,
     )
 }
 
-fn tell_needed<W: Write>(form: u32, bytes: &[u8], res: &mut [u8], out: &mut W) -> io::Result<()> {
+fn show<W: Write>(form: Form, bytes: &[u8], res: &mut [u8], out: &mut W) -> io::Result<()> {
     let n = needed(form, bytes);
-    if n > res.len() {
-        return Ok(());
+    if n <= res.len() {
+        tell(form, bytes, &mut res[..n], out)?;
     }
-    tell(form, bytes, &mut res[..n], out)
-}
-
-fn show<W: Write>(form: u32, bytes: &[u8], res: &mut [u8], out: &mut W) -> io::Result<()> {
-    let mut none = [0u8; 1];
-    tell_needed(form, bytes, res, out)?;
-    tell(form, bytes, &mut none[..0], out)
-}
-
-fn read_and_show<R: Files + Print>(
-    rt: &R,
-    path: &str,
-    bytes: &mut [u8],
-    res: &mut [u8],
-) -> io::Result<()> {
-    let mut from = File::open(rt, path)?;
-    let mut out = io::writer(rt);
-    writeln!(out, "{path}")?;
-    let n = read_full(&mut from, bytes);
-    show(1, &bytes[..n], res, &mut out)?;
-    show(2, &bytes[..n], res, &mut out)
+    tell(form, bytes, &mut [], out)
 }
 
 fn case<R: Files + Print>(rt: &R, path: &str) -> io::Result<()> {
-    let mut bytes = buffer();
-    let mut result = buffer();
-    read_and_show(rt, path, &mut bytes, &mut result)
-}
-
-fn sound<R: Files + Print>(rt: &R) -> io::Result<()> {
-    case(rt, "one_band")?;
-    case(rt, "form_1")?;
-    case(rt, "form_2")?;
-    case(rt, "last_gain_0")?;
-    case(rt, "wide_1")?;
-    case(rt, "wide_2")?;
-    case(rt, "wide_17")
-}
-
-fn damaged<R: Files + Print>(rt: &R) -> io::Result<()> {
-    case(rt, "empty")?;
-    case(rt, "short")?;
-    case(rt, "few")?;
-    case(rt, "check")?;
-    case(rt, "mixed_1")?;
-    case(rt, "mixed_2")?;
-    case(rt, "form_3")?;
-    case(rt, "one_band_2")?;
-    case(rt, "past")?;
-    case(rt, "not_whole")?;
-    case(rt, "unused")
+    let (mut table, mut res) = ([0u8; TABLE_LIMIT], [0u8; TABLE_LIMIT]);
+    let mut from = File::open(rt, path)?;
+    let mut out = io::writer(rt);
+    writeln!(out, "{path}")?;
+    let bytes = read_in(&mut from, &mut table);
+    show(Form::One, bytes, &mut res, &mut out)?;
+    show(Form::Two, bytes, &mut res, &mut out)
 }
 
 fn main(rt: HostRuntime) -> io::Result<()> {
-    sound(&rt)?;
-    damaged(&rt)
+    for path in TABLES {
+        case(&rt, path)?;
+    }
+    Ok(())
 }

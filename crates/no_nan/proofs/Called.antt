@@ -14,7 +14,7 @@ use lib.Dec.{T, eqb, ltb}
 use lib.ListN.{length, drop, get_or}
 use lib.Ieee.{Float, nan}
 use Rattle.answer.specs.Answer.{when_done}
-use Rattle.answer.specs.declared.Answer.TheVariants.{Done}
+use Rattle.std.specs.Prelude.{Ok}
 use Rattle.answer.specs.declared.Refusal.TheVariants.{Length, TooMany, NotFinite, Domain}
 use Rattle.answer.proofs.Chain.{opened}
 use Rattle.answer.proofs.Numbers.{told_one}
@@ -38,7 +38,7 @@ was_true : (b : Bool) → not b ≡ false → b ≡ true
 was_true true e = refl
 was_true false e = absurd (false≢true (sym e))
 
-module _ (op : Op) (s d : List Float) (F : Each Fits s) (e : apply_answer op s d ≡ Done) where
+module _ (op : Op) (s d : List Float) (F : Each Fits s) (e : apply_answer op s d ≡ (Ok tt)) where
   -- past all four tests every element is given
   each_given : (i : ℕ) → i < length s → Given op (get_or s i nan)
   unfolding apply_answer first_outside
@@ -60,8 +60,8 @@ module _ (op : Op) (s d : List Float) (F : Each Fits s) (e : apply_answer op s d
       (each_map P (eval_of op) s (λ i l. h (get_or s i nan) (each_given i l)))
 
 pub apply_no_nan : (op : Op) (s d : List Float) → Each Fits s → apply_told op s d ≡ (0, 0) → Each Number (apply_out op s d)
-apply_no_nan op s d F e = each_left op s d F (told_one (apply_answer op s d) Done e) Number (no_nan op)
+apply_no_nan op s d F e = each_left op s d F (told_one (apply_answer op s d) (Ok tt) e) Number (no_nan op)
 
 pub apply_finite : (op : Op) (s d : List Float) → Each Fits s → T (alpha_fits op) → T (stays_finite op) → apply_told op s d ≡ (0, 0)
     → Each Finite (apply_out op s d)
-apply_finite op s d F a t e = each_left op s d F (told_one (apply_answer op s d) Done e) Finite (λ x g. stays_finite_law op x g a t)
+apply_finite op s d F a t e = each_left op s d F (told_one (apply_answer op s d) (Ok tt) e) Finite (λ x g. stays_finite_law op x g a t)

@@ -13,7 +13,7 @@ use Rattle.floats.specs.Each.{Each}
 use Rattle.lists.proofs.First.{first_clear}
 use Rattle.lists.proofs.Tab.{tab_at, tab_length}
 use Rattle.answer.specs.Answer.{judged, when_done}
-use Rattle.answer.specs.declared.Answer.TheVariants.{Done}
+use Rattle.std.specs.Prelude.{Ok}
 use Rattle.answer.specs.declared.Refusal.TheVariants.{Length}
 use Rattle.answer.proofs.Chain.{opened}
 use Rattle.normalize.specs.declared.Settings.{Settings}
@@ -23,7 +23,7 @@ use Rattle.no_nan.specs.NoNan.{Number}
 use Rattle.no_nan.specs.Kernels.{InPlaceNumbers, NormalizeNumbers}
 
 module _ (st : Settings) (hs : Bool) (es : List Float) (hb : Bool) (eb s : List Float) where
-  numbers : Done ≡ judged (tests st hs es hb eb s) → Each Number (results st hs es hb eb s)
+  numbers : (Ok tt) ≡ judged (tests st hs es hb eb s) → Each Number (results st hs es hb eb s)
   unfolding first_nan_result
   numbers e i h =
       let k : i < length s = rw tab_length at h in

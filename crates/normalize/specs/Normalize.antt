@@ -1,5 +1,6 @@
 -- normalize.rs (RULES, Normalize): the result at a place, and what the two calls answer and leave. Definitions only.
-use Rattle.std.specs.Prelude.{ℕ, ◌≡◌, Bool, true, false, cond, not, ◌&&◌, List, [], ◌∷◌, eqb, ltb, length, get_or, Float}
+use Rattle.std.specs.Prelude.{ℕ, ◌≡◌, Bool, true, false, cond, not, ◌&&◌, List, [], ◌∷◌, eqb, ltb, length, get_or, Float, Option, Some, None, is_some}
+use denote.Ref.{Bor}
 use Rattle.std.specs.Float.{nan, binary32}
 use Rattle.std.specs.Float.Ieee.{add, sub, mul, eq, is_nan}
 use Rattle.std.specs.Float.Ieee.Scale.{finite}
@@ -8,7 +9,7 @@ use Rattle.floats.specs.Floats.{mul_add, finite_at}
 use Rattle.floats.specs.Values.{zero_f, one_f}
 use Rattle.answer.specs.Answer.{Test, judged, when_done, told_of}
 use Rattle.answer.specs.Limits.{element_limit}
-use Rattle.answer.specs.declared.Answer.{Answer}
+use Rattle.answer.specs.Answer.{Answer}
 use Rattle.answer.specs.declared.Refusal.TheVariants.{Length, TooMany, NotFinite, Domain, Result}
 use Rattle.normalize.specs.declared.Settings.{Settings}
 
@@ -103,6 +104,15 @@ abbrev pub normalize_out : Settings → Bool → List Float → Bool → List Fl
 normalize_out st hs es hb eb s d = when_done (normalize_answer st hs es hb eb s d) (results st hs es hb eb s) d
 
 -- ---- for the code
+-- the list of a slice that may be absent
+abbrev pub list_of : Option (Bor (List Float)) → List Float
+list_of None = []
+list_of (Some s) = s.now
+
+-- it is the slice s, where `has` says that there is one
+abbrev pub Shows : Option (Bor (List Float)) → Bool → List Float → Type 0
+Shows o has s = (is_some o ≡ has) × (has ≡ true → list_of o ≡ s)
+
 -- the slices in use have the length n
 pub record Fitted (hs : Bool) (es : List Float) (hb : Bool) (eb : List Float) (n : ℕ) : Type 0 where
   pub scale : hs ≡ true → length es ≡ n

@@ -1,157 +1,87 @@
 // What normalize refuses, and where. It only reads.
-ghost use Rattle.std.specs.Prelude.{◌≡◌, true, false, ℕ, ◌<◌, length};
-ghost use Rattle.std.specs.Float.Ieee.{is_nan};
+ghost use Rattle.std.specs.Prelude.{◌≡◌, true, false, ℕ, ◌<◌, is_some, length, slice_index_or};
+ghost use Rattle.std.specs.Float.{nan};
 ghost use Rattle.std.specs.Float.Ieee.Scale.{finite};
 ghost use Rattle.answer.specs.Answer.{judged};
-ghost use Rattle.normalize.specs.Normalize.{result_at, unfit_of, settings_ok, finite_in, finite_all, first_bad, result_number, first_nan_result, tests, Fitted};
+ghost use Rattle.normalize.specs.Normalize.{list_of, settings_ok, tests};
+ghost use Rattle.normalize.specs.Scaling.{FirstAt, Fits, result_by, all_finite, number_by, tests_by};
 
-use crate::{Settings, result_at};
+use crate::Settings;
+use crate::scaling::{Scaling, unfit};
 use answer::limits::ELEMENT_LIMIT;
 use answer::{Answer, Refusal};
 use floats::bits::is_finite;
 use floats::scan::any_not_finite;
 
-// A slice in use whose length is not n.
-fn unfit(has: bool, k: usize, n: usize) -> bool
-    ensures { result ≡ unfit_of has k n }
-{
-    if has { k != n } else { false }
+impl Settings {
+    fn are_finite(self) -> bool
+        ensures { result ≡ settings_ok self }
+    {
+        is_finite(self.pre_scale_bias) && is_finite(self.scale) && is_finite(self.bias)
+    }
 }
 
-fn settings_ok(st: Settings) -> bool
-    ensures { result ≡ settings_ok st }
+// The first place where a test of it and its element fails.
+fn first_failing<F: Fn(usize, f32) -> bool>(passes: F, src: &[f32]) -> Option<usize>
+    requires { (i : ℕ) → i < length src.now → F.pre passes i (slice_index_or src.now i nan) }
+    ensures { FirstAt (λ i. F.post passes i (slice_index_or src.now i nan)) (length src.now) result }
 {
-    if !is_finite(st.pre_scale_bias) {
-        return false;
-    }
-    if !is_finite(st.scale) {
-        return false;
-    }
-    is_finite(st.bias)
-}
-
-// Absent, or finite at i.
-fn finite_in(has: bool, s: &[f32], i: usize) -> bool
-    requires { has ≡ true → i < length s.now }
-    ensures { result ≡ finite_in has s.now i }
-{
-    if has { is_finite(s[i]) } else { true }
-}
-
-fn finite_all(hs: bool, es: &[f32], hb: bool, eb: &[f32], src: &[f32], i: usize) -> bool
-    requires { (i < length src.now) × Fitted hs es.now hb eb.now (length src.now) }
-    ensures { result ≡ finite_all hs es.now hb eb.now src.now i }
-{
-    if !is_finite(src[i]) {
-        return false;
-    }
-    if !finite_in(hs, es, i) {
-        return false;
-    }
-    finite_in(hb, eb, i)
-}
-
-fn first_bad(hs: bool, es: &[f32], hb: bool, eb: &[f32], src: &[f32]) -> usize
-    requires { Fitted hs es.now hb eb.now (length src.now) }
-    ensures { result ≡ first_bad hs es.now hb eb.now src.now }
-{
-    let mut i = 0;
-    while i < src.len() {
-        if !finite_all(hs, es, hb, eb, src, i) {
-            return i;
+    for (i, x) in src.iter().enumerate() {
+        if !passes(i, *x) {
+            return Some(i);
         }
-        i += 1;
     }
-    i
-}
-
-fn is_nan(x: f32) -> bool
-    ensures { result ≡ is_nan x }
-{
-    x != x
-}
-
-fn first_nan(st: Settings, hs: bool, es: &[f32], hb: bool, eb: &[f32], src: &[f32]) -> usize
-    requires { Fitted hs es.now hb eb.now (length src.now) }
-    ensures { result ≡ first_nan_result st hs es.now hb eb.now src.now }
-{
-    let mut i = 0;
-    while i < src.len() {
-        if is_nan(result_at(st, hs, es, hb, eb, src, i)) {
-            return i;
-        }
-        i += 1;
-    }
-    i
+    None
 }
 
 // A look at all results with no early end, so that it runs in lanes. A finite one shows that all that went into it is finite.
-fn any_not_finite_result(
-    st: Settings,
-    hs: bool,
-    es: &[f32],
-    hb: bool,
-    eb: &[f32],
-    src: &[f32],
-) -> bool
-    requires { Fitted hs es.now hb eb.now (length src.now) }
-    ensures { result ≡ false
-        → (i : ℕ) → i < length src.now → finite (result_at st hs es.now hb eb.now src.now i) ≡ true }
+fn any_not_finite_result(by: Scaling, src: &[f32]) -> bool
+    requires { Fits by (length src.now) }
+    ensures { result ≡ false → (i : ℕ) → i < length src.now → finite (result_by by.entry src.now i) ≡ true }
 {
     let mut bad = false;
-    let mut i = 0;
-    while i < src.len() {
-        bad = bad | !is_finite(result_at(st, hs, es, hb, eb, src, i));
-        i += 1;
+    for (i, x) in src.iter().enumerate() {
+        bad |= !is_finite(by.at(i, *x));
     }
     bad
 }
 
 // Whether the places are to be searched: no where a look shows that all in use is finite and every result a number.
 // With no per-element slice, and a scale other than zero, finite data gives numbers.
-fn needs_search(st: Settings, hs: bool, es: &[f32], hb: bool, eb: &[f32], src: &[f32]) -> bool
-    requires { Fitted hs es.now hb eb.now (length src.now) × (settings_ok st ≡ true) }
+fn needs_search(by: Scaling, src: &[f32]) -> bool
+    requires fits { Fits by (length src.now) }
+    requires settings { settings_ok by.settings ≡ true }
     ensures { result ≡ false
-        → (i : ℕ) → i < length src.now → (finite_all hs es.now hb eb.now src.now i ≡ true)
-        × (result_number st hs es.now hb eb.now src.now i ≡ true) }
+        → (i : ℕ) → i < length src.now → (all_finite by.entry src.now i ≡ true) × (number_by by.entry src.now i ≡ true) }
 {
-    if !hs {
-        if !hb {
-            if st.scale != 0.0 {
-                return any_not_finite(src);
-            }
-        }
+    if by.element_scale.is_none() && by.element_bias.is_none() && by.settings.scale != 0.0 {
+        return any_not_finite(src);
     }
-    any_not_finite_result(st, hs, es, hb, eb, src)
+    any_not_finite_result(by, src)
 }
 
 // Refusals 1, 2, 3, 4, 6 (RULES, Order), but for the length of what is written. It only reads.
-pub fn judge(st: Settings, hs: bool, es: &[f32], hb: bool, eb: &[f32], src: &[f32]) -> Answer
-    ensures { result ≡ judged (tests st hs es.now hb eb.now src.now) }
+pub fn judge(by: Scaling, src: &[f32]) -> Answer
+    ensures { result ≡ judged (tests_by by.entry src.now) }
 {
     let n = src.len();
-    if unfit(hs, es.len(), n) {
-        return Answer::Refused(Refusal::Length);
-    }
-    if unfit(hb, eb.len(), n) {
-        return Answer::Refused(Refusal::Length);
+    if unfit(by.element_scale, n) || unfit(by.element_bias, n) {
+        return Err(Refusal::Length);
     }
     if n > ELEMENT_LIMIT {
-        return Answer::Refused(Refusal::TooMany);
+        return Err(Refusal::TooMany);
     }
-    if !settings_ok(st) {
-        return Answer::Refused(Refusal::NotFinite);
+    if !by.settings.are_finite() {
+        return Err(Refusal::NotFinite);
     }
-    if !needs_search(st, hs, es, hb, eb, src) {
-        return Answer::Done;
+    if !needs_search(by, src) {
+        return Ok(());
     }
-    let bad = first_bad(hs, es, hb, eb, src);
-    if bad < n {
-        return Answer::Refused(Refusal::Domain(bad));
+    if let Some(at) = first_failing(|i, x| by.finite_at(i, x), src) {
+        return Err(Refusal::Domain(at));
     }
-    let nan_at = first_nan(st, hs, es, hb, eb, src);
-    if nan_at < n {
-        return Answer::Refused(Refusal::Result(nan_at));
+    if let Some(at) = first_failing(|i, x| !by.at(i, x).is_nan(), src) {
+        return Err(Refusal::Result(at));
     }
-    Answer::Done
+    Ok(())
 }

@@ -3,79 +3,56 @@
 // and the three words afterwards, of the call from slice to slice and of the call in place; tools/normalize_cases.py makes both files.
 #![tactic(auto)]
 
-ghost use Rattle.std.specs.Prelude.{◌≤◌};
-
-use answer::{Answer, number, place};
-use floats::bits::{from_pattern, pattern};
-use hex_words::{floats_at, places, word};
+use answer::Answer;
+use hex_words::cases::each_case;
+use hex_words::lines::{floats, told};
+use hex_words::words::Words;
 use normalize::{Settings, normalize, normalize_in_place};
 use std::io;
 use std::io::Write;
-use system::read_full;
+use system::read_in;
 
-fn show_word<W: Write>(x: f32, out: &mut W) -> io::Result<()> {
-    let word = pattern(x);
-    write!(out, " {word:08x}")
-}
-
-fn show<W: Write>(answer: Answer, a: f32, b: f32, c: f32, out: &mut W) -> io::Result<()> {
-    let (number, place) = (number(answer), place(answer));
-    write!(out, "{number} {place}")?;
-    show_word(a, out)?;
-    show_word(b, out)?;
-    show_word(c, out)?;
+fn show<W: Write>(answer: Answer, left: &[f32], out: &mut W) -> io::Result<()> {
+    told(answer, out)?;
+    floats(left, out)?;
     writeln!(out, "")
 }
 
-fn three(text: &[u8], from: usize) -> [f32; 3]
-    requires { from ≤ 131072 }
-{
-    let mut out = [0.0f32; 3];
-    floats_at(text, from, &mut out);
-    out
+fn three(words: &mut Words<'_>) -> [f32; 3] {
+    [words.float(), words.float(), words.float()]
 }
 
-fn settings_at(text: &[u8], at: usize) -> Settings
-    requires { at ≤ 65536 }
-{
-    Settings {
-        pre_scale_bias: from_pattern(word(text, at)),
-        scale: from_pattern(word(text, at + 1)),
-        bias: from_pattern(word(text, at + 2)),
-    }
-}
-
-fn case<W: Write>(text: &[u8], at: usize, out: &mut W) -> io::Result<()>
-    requires { at ≤ 65536 }
-{
-    let settings = settings_at(text, at);
-    let has_scale = word(text, at + 3) != 0;
-    let has_bias = word(text, at + 4) != 0;
-    let scales = three(text, at + 5);
-    let biases = three(text, at + 8);
-    let mut buf = three(text, at + 11);
+fn show_case<W: Write>(words: &mut Words<'_>, out: &mut W) -> io::Result<()> {
+    let settings = Settings {
+        pre_scale_bias: words.float(),
+        scale: words.float(),
+        bias: words.float(),
+    };
+    let (has_scale, has_bias) = (words.word() != 0, words.word() != 0);
+    let (scales, biases) = (three(words), three(words));
+    let element_scale = if has_scale {
+        Some(scales.as_slice())
+    } else {
+        None
+    };
+    let element_bias = if has_bias {
+        Some(biases.as_slice())
+    } else {
+        None
+    };
+    let mut buf = three(words);
     // 7, so that what is not written shows.
     let mut dst = [7.0f32; 3];
-    let answer = normalize(
-        settings, has_scale, &scales, has_bias, &biases, &buf, &mut dst,
-    );
-    show(answer, dst[0], dst[1], dst[2], out)?;
-    let in_place = normalize_in_place(settings, has_scale, &scales, has_bias, &biases, &mut buf);
-    show(in_place, buf[0], buf[1], buf[2], out)
-}
-
-fn run<W: Write>(text: &[u8], out: &mut W) -> io::Result<()> {
-    let end = places(text);
-    let mut at = 0;
-    while at < end {
-        case(text, at, out)?;
-        at += 14;
-    }
-    Ok(())
+    let answer = normalize(settings, element_scale, element_bias, &buf, &mut dst);
+    show(answer, &dst, out)?;
+    let in_place = normalize_in_place(settings, element_scale, element_bias, &mut buf);
+    show(in_place, &buf, out)
 }
 
 fn main(rt: HostRuntime) -> io::Result<()> {
+    let mut out = rt.stdout();
     let mut text = [0u8; 65536];
-    let n = read_full(&mut rt.stdin(), &mut text);
-    run(&text[..n], &mut rt.stdout())
+    let text = read_in(&mut rt.stdin(), &mut text);
+    each_case(text, |_, words| show_case(words, &mut out))?;
+    Ok(())
 }

@@ -5,7 +5,7 @@ use native.Mathlib.Omega.{arith}
 use borrow.Author.Tests.{ne_eqb}
 use Rattle.answer.specs.Answer.{class_of, place_of, told_of}
 use Rattle.answer.specs.Limits.{element_limit}
-use Rattle.answer.specs.declared.Answer.{Answer}
+use Rattle.answer.specs.Answer.{Answer}
 use Rattle.answer.specs.declared.Refusal.{Refusal}
 use Rattle.answer.proofs.Numbers.{listed}
 use Rattle.pack.specs.Pack.{packed, when_zero}

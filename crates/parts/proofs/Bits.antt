@@ -5,9 +5,19 @@ use mathlib.Core.Bool.{Bool, true, false}
 use native.Mathlib.Omega.{arith}
 use borrow.Author.Tests.{ltb-true, ltb-false}
 use lib.Dec.{ltb}
+use mir.Val.{bool_byte}
 use Rattle.lists.specs.Lists.{bit}
 use Rattle.lists.proofs.Sum.{bit_small}
 use Rattle.parts.specs.Parts.{lt1}
+
+-- as the code makes the number
+pub as_bit : (t : Bool) → bool_byte t ≡ bit t
+as_bit true = refl
+as_bit false = refl
+
+pub byte_small : (t : Bool) → bool_byte t ≤ 1
+byte_small true = omega arith
+byte_small false = omega arith
 
 -- by cases on the test
 pub by_lt {ℓ} : {P : Type ℓ} (a b : ℕ) → (a < b → lt1 a b ≡ 1 → P) → (b ≤ a → lt1 a b ≡ 0 → P) → P

@@ -1,5 +1,6 @@
 pub mod Cases
 pub mod Bits
+pub mod Sums
 pub mod Shares
 pub mod Order
 pub mod Nearest

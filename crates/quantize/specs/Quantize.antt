@@ -7,7 +7,7 @@ use Rattle.std.specs.Float.Ieee.Scale.{finite}
 use Rattle.floats.specs.Floats.{first_not_finite}
 use Rattle.answer.specs.Answer.{Test, judged, when_done, told_of}
 use Rattle.answer.specs.Limits.{element_limit}
-use Rattle.answer.specs.declared.Answer.{Answer}
+use Rattle.answer.specs.Answer.{Answer}
 use Rattle.answer.specs.declared.Refusal.TheVariants.{Length, TooMany, NotFinite, Domain}
 
 -- a zero point zp of 0..255, less n (true) or plus n (false), held to 0..255

@@ -1,7 +1,7 @@
 // quantize.rs, to u8: y = saturate(round(x * inv_scale) + zero_point).
 #![tactic(auto)]
 
-ghost use Rattle.std.specs.Prelude.{◌≡◌, map, length};
+ghost use Rattle.std.specs.Prelude.{◌≡◌};
 ghost use Rattle.answer.specs.Answer.{told_of};
 ghost use Rattle.quantize.specs.Quantize.{code_steps, clamp_of, code_of, quantize_told, quantize_out};
 
@@ -10,16 +10,14 @@ use answer::{Answer, Refusal};
 use floats::bits::{abs_by_order, is_finite};
 use floats::round::round_ties_even;
 use floats::scan::first_not_finite;
+use lists::each::map_into;
 
 // How many whole steps y lies from 0, ties to even; 256, which passes every code, stands for all from there on, so no cast can wrap.
 fn steps(y: f32) -> u32
     ensures { result ≡ code_steps y }
 {
     let size = round_ties_even(abs_by_order(y));
-    if size < 256.0 {
-        return size as u32;
-    }
-    256
+    if size < 256.0 { size as u32 } else { 256 }
 }
 
 // The zero point moved by y, held to 0..255.
@@ -27,17 +25,12 @@ fn clamp(zero_point: u8, y: f32) -> u8
     ensures { result ≡ clamp_of zero_point y }
 {
     let n = steps(y);
-    let zp = zero_point as u32;
+    let zp = u32::from(zero_point);
     if y < 0.0 {
-        if n < zp {
-            return (zp - n) as u8;
-        }
-        return 0;
+        zp.saturating_sub(n) as u8
+    } else {
+        (zp + n).min(255) as u8
     }
-    if zp + n < 255 {
-        return (zp + n) as u8;
-    }
-    255
 }
 
 fn code(inv_scale: f32, zero_point: u8, x: f32) -> u8
@@ -46,35 +39,23 @@ fn code(inv_scale: f32, zero_point: u8, x: f32) -> u8
     clamp(zero_point, x * inv_scale)
 }
 
-fn fill(inv_scale: f32, zero_point: u8, src: &[f32], dst: &mut [u8])
-    requires { length src.now ≡ length dst.old }
-    ensures { dst.new ≡ map (code_of inv_scale zero_point) src.now }
-{
-    let mut i = 0;
-    while i < src.len() {
-        dst[i] = code(inv_scale, zero_point, src[i]);
-        i += 1;
-    }
-}
-
 // Refusals 1, 2, 3, 4 (RULES, Order); nothing is written before the last element has been looked at.
 pub fn quantize(inv_scale: f32, zero_point: u8, src: &[f32], dst: &mut [u8]) -> Answer
     ensures told { told_of result ≡ quantize_told inv_scale src.now dst.old }
     ensures written { dst.new ≡ quantize_out inv_scale zero_point src.now dst.old }
 {
     if src.len() != dst.len() {
-        return Answer::Refused(Refusal::Length);
+        return Err(Refusal::Length);
     }
     if src.len() > ELEMENT_LIMIT {
-        return Answer::Refused(Refusal::TooMany);
+        return Err(Refusal::TooMany);
     }
     if !is_finite(inv_scale) {
-        return Answer::Refused(Refusal::NotFinite);
+        return Err(Refusal::NotFinite);
     }
-    let bad = first_not_finite(src);
-    if bad < src.len() {
-        return Answer::Refused(Refusal::Domain(bad));
+    if let Some(at) = first_not_finite(src) {
+        return Err(Refusal::Domain(at));
     }
-    fill(inv_scale, zero_point, src, dst);
-    Answer::Done
+    map_into(|x| code(inv_scale, zero_point, x), src, dst);
+    Ok(())
 }

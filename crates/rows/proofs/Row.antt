@@ -1,10 +1,10 @@
 -- The stored gains of row R of a table, in the bytes of its block. Assumes nothing.
 use Prim.Native.Nat.{ℕ, suc, ◌+◌, ◌-◌, ◌*◌, ◌/◌, ◌%◌, ◌≤◌, ◌<◌}
-use mathlib.Core.Path.{◌≡◌, sym, ap, ◌∙◌, subst}
+use mathlib.Core.Path.{◌≡◌, refl, sym, ap, ◌∙◌, subst}
 use mathlib.Core.List.{List}
 use native.Mathlib.Nat.{add-mul, mul_assoc, mul-le-mul_right, suc-mul, mod-lt, div-add-mod'}
 use native.Mathlib.Omega.{arith}
-use lib.ListN.{length, set}
+use lib.ListN.{length, set, take, drop}
 use Rattle.lists.specs.Lists.{sum_to, Placed, Filled}
 use Rattle.lists.proofs.Sum.{sum_same}
 use Rattle.lists.proofs.Placed.{placed_none, placed_more, placed_join, placed_same}
@@ -12,6 +12,7 @@ use Rattle.block.specs.Block.{per_block, row_gain, given}
 use Rattle.block.specs.Read.{bytes_from, word_at, gain_at}
 use Rattle.block.proofs.Shape.{per_pos, per_fits, wide_pos}
 use Rattle.block.proofs.Totals.{gain_row}
+use Rattle.block.proofs.Cut.{cut_long, word_of_part}
 use Rattle.block.proofs.Given.{given_at, gain_stored, gain_left, gain_in_law}
 
 module _ (W : ℕ) (some : 1 ≤ W) (most : W ≤ 250) (R : ℕ) where
@@ -48,6 +49,30 @@ module _ (W : ℕ) (some : 1 ≤ W) (most : W ≤ 250) (R : ℕ) where
       row_left =
           sym (gain_left parts W B (gain_at W s) R W (omega arith)
           ∙ ap (λ (x : ℕ). parts - x) (sum_same (λ j. gain_at W s (R * W + j)) _ W stored_there))
+
+-- by the rows of a block and the stored gains of a row that were counted, in the block's own bytes
+module _ (W : ℕ) (some : 1 ≤ W) (most : W ≤ 250) (R : ℕ) (s : List ℕ) (parts B P V : ℕ) (p : P ≡ per_block W) (e : V ≡ W) where
+  abbrev own : List ℕ
+  own = take (512 * (R / P) + 512 - 512 * (R / P)) (drop (512 * (R / P)) s)
+
+  pub own_long : 512 * (R / per_block W) + 512 ≤ length s → 512 ≤ length own
+  own_long h = let l = cut_long s (512 * (R / P)) (512 * (R / P) + 512) (rw p h) in omega (arith, l)
+
+  pub own_inside : 8 + 2 * (R % P * V) + 2 * V ≤ 508
+  own_inside = rw (p, e) (row_inside W some most R)
+
+  own_there : (j : ℕ) → j < W → word_at (bytes_from own 0) (8 + 2 * (R % P * V) + 2 * j) ≡ word_at (bytes_from s (512 * (R / per_block W))) (8 + 2 * (R % per_block W * W) + 2 * j)
+  own_there j l =
+      word_of_part s _ (512 * (R / P)) (8 + 2 * (R % P * V) + 2 * j) (omega (arith, own_inside, e, l))
+      ∙ rw (p, e) refl
+
+  pub own_stored : (j v : ℕ) → j < W → v ≡ word_at (bytes_from own 0) (8 + 2 * (R % P * V) + 2 * j) → v ≡ row_gain parts W (gain_at W s) R j
+  own_stored j v l h = h ∙ own_there j l ∙ row_stored W some most R s parts B j l
+
+  pub own_left : (v : ℕ) → v ≡ parts - sum_to (λ j. word_at (bytes_from own 0) (8 + 2 * (R % P * V) + 2 * j)) V → v ≡ row_gain parts W (gain_at W s) R W
+  own_left v h =
+      h ∙ ap (λ (x : ℕ). parts - sum_to (λ j. word_at (bytes_from own 0) (8 + 2 * (R % P * V) + 2 * j)) x) e
+      ∙ ap (λ (x : ℕ). parts - x) (sum_same _ _ W own_there) ∙ row_left W some most R s parts B
 
 -- the gains of row R, filled in from `to` on, one after the other
 module _ (parts W : ℕ) (f : ℕ → ℕ) (R to : ℕ) where

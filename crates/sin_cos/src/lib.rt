@@ -9,6 +9,7 @@ use consts::{
 };
 use floats::round::round_ties_even;
 
+// Not std's min and max, which pass over a NaN and may give either of two zeros.
 fn min(a: f32, b: f32) -> f32
     ensures { result ≡ min_of a b }
 {

@@ -3,7 +3,7 @@ use mathlib.Core.Bool.{Bool}
 use mathlib.Core.List.{List}
 use mathlib.Core.Path.{◌≡◌}
 use lib.Ieee.{Float}
-use Rattle.answer.specs.declared.Answer.{Answer}
+use Rattle.answer.specs.Answer.{Answer}
 use Rattle.answer.specs.Answer.{Outcome}
 use Rattle.answer.proofs.Outcome.{one_outcome}
 use Rattle.softmax.specs.Softmax.{softmax_told, softmax_out, in_place_told, in_place_out}

@@ -1,16 +1,16 @@
 -- The domain's tests as code makes them, and an input that is all masked. Assumes nothing.
-use Prim.Native.Nat.{ℕ, ◌≤◌, ◌<◌}
-use mathlib.Core.Path.{◌≡◌, refl, sym, subst}
+use Prim.Native.Nat.{ℕ, suc, ◌<◌}
+use mathlib.Core.Path.{◌≡◌, refl, sym, subst, ◌∙◌}
 use mathlib.Core.Logic.{◌⊎◌, inl, inr}
-use mathlib.Core.Bool.{Bool, true, false, ◌&&◌, false≢true}
-use mathlib.Core.List.{List}
-use native.Mathlib.Omega.{arith}
-use lib.Dec.{T, ltb}
+use mathlib.Core.Bool.{Bool, true, false, cond, ◌&&◌, false≢true}
+use mathlib.Core.List.{List, [], ◌∷◌}
+use lib.Dec.{T, eqb, eqb-suc-suc, eqb-zero-suc}
 use lib.ListN.{length, get_or}
 use lib.Ieee.{Float, nan, inf, fin, neg, lt, eq}
 use lib.Ieee.Scale.{finite}
-use borrow.Author.Tests.{eq-eqb, ne_eqb}
-use Rattle.lists.proofs.First.{Passed, first_at, first_end}
+use borrow.Author.Tests.{lt-ltb}
+use Rattle.std.specs.List.{list_all}
+use Rattle.lists.specs.Lists.{first_not}
 use Rattle.softmax.specs.Softmax.{is_masked, in_domain, all_masked}
 
 -- ---- one element
@@ -42,24 +42,20 @@ in_domain_law (inf false) h = absurd (false≢true h)
 in_domain_law (fin s m e) h = inl tt
 
 -- ---- a list that is all masked
-module _ (s : List Float) (i : ℕ) (p : Passed (λ k. is_masked (get_or s k nan)) i) where
-  -- the search met an element that is not masked
-  pub not_all : i < length s → is_masked (get_or s i nan) ≡ false → false ≡ all_masked s
-  unfolding all_masked
-  not_all h e =
-      rw (sym (first_at _ (length s) i h p e), ne_eqb i (length s) (λ (q : i ≡ length s). omega arith)) (sym (and_false (ltb 0 (length s))))
-    where
-      and_false : (b : Bool) → (b && false) ≡ false
-      and_false true = refl
-      and_false false = refl
+all_first : (p : Float → Bool) (s : List Float) → list_all p s ≡ eqb (first_not (λ i. p (get_or s i nan)) (length s)) (length s)
+unfolding first_not
+all_first p [] = refl
+all_first p (x ∷ s) = rw (all_first p s) (step (p x) (first_not (λ i. p (get_or s i nan)) (length s)) (length s))
+  where
+    step : (b : Bool) (a n : ℕ) → (b && eqb a n) ≡ eqb (cond b (suc a) 0) (suc n)
+    step true a n = sym (eqb-suc-suc a n)
+    step false a n = sym (eqb-zero-suc n)
 
-  -- or it came to the end
-  pub at_end : i ≤ length s → length s ≤ i → ltb 0 i ≡ all_masked s
-  unfolding all_masked
-  at_end h k =
-      let e : i ≡ length s = omega arith in
-      rw (sym (first_end _ (length s) i h k p), e, eq-eqb (length s) (length s) refl) (sym (and_true (ltb 0 (length s))))
-    where
-      and_true : (b : Bool) → (b && true) ≡ b
-      and_true true = refl
-      and_true false = refl
+-- as `all` finds it, where there is an element; and where there is none
+pub masked_all : (s : List Float) (r : Bool) → 0 < length s → r ≡ list_all is_masked s → r ≡ all_masked s
+unfolding all_masked
+masked_all s r h e = rw (lt-ltb 0 (length s) h) (e ∙ all_first is_masked s)
+
+pub masked_none : (s : List Float) → length s ≡ 0 → false ≡ all_masked s
+unfolding all_masked
+masked_none s h = rw h refl

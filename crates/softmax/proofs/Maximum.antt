@@ -1,10 +1,12 @@
 -- The maximum of finite or masked elements: finite, at least every element, and an element or `f32::MIN`. Assumes nothing.
+use Prim.Native.Nat.{ℕ, ◌<◌}
 use mathlib.Core.Path.{◌≡◌, refl, sym, subst}
 use mathlib.Core.Logic.{◌⊎◌, inl, inr}
 use mathlib.Core.Bool.{Bool, true, false, not, cond}
 use mathlib.Core.List.{List}
 use lib.Dec.{T}
-use lib.ListN.{get_or}
+use lib.ListN.{get_or, length}
+use Rattle.std.proofs.lemmas.List.{get_or_default}
 use lib.Ieee.{Float, nan, inf, fin, binary32, sub, neg, lt, le, of_bits, is_nan}
 use lib.Ieee.Scale.{finite}
 use lib.Ieee.Bits.{is_true}
@@ -92,3 +94,7 @@ module _ (s : List Float) (d : Each InDomain s) where
   -- as `reduced_range_exp` asks it
   pub not_above : Each (λ x. lt zero_f (sub binary32 x (max_of s)) ≡ false) s
   not_above i h = le_not_lt (sub binary32 (get_or s i nan) (max_of s)) zero_f (is_true _ (less_max i h))
+
+  -- and by any other value past the list's end
+  pub not_above_at : (i : ℕ) (z : Float) → i < length s → lt zero_f (sub binary32 (get_or s i z) (max_of s)) ≡ false
+  not_above_at i z h = rw (get_or_default s i z nan h) (not_above i h)

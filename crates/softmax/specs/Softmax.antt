@@ -5,7 +5,7 @@ use Rattle.std.specs.Float.Ieee.{sub, mul, div}
 use Rattle.std.specs.Float.Ieee.Scale.{finite}
 use Rattle.answer.specs.Answer.{Test, judged, told_of, when_done}
 use Rattle.answer.specs.Limits.{element_limit}
-use Rattle.answer.specs.declared.Answer.{Answer}
+use Rattle.answer.specs.Answer.{Answer}
 use Rattle.answer.specs.declared.Refusal.TheVariants.{Length, TooMany, Domain, Masked}
 use Rattle.floats.specs.Values.{zero_f, one_f, f32_min}
 use Rattle.exp.specs.Exp.{reduced_range_exp_of}

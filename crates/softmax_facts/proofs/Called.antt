@@ -13,7 +13,7 @@ use lib.Ieee.Scale.{finite}
 use borrow.Author.Tests.{eq-eqb, le-ltb, eqb-true, ltb-true, ltb-false}
 use Rattle.answer.specs.Answer.{when_done, told_of}
 use Rattle.answer.specs.Limits.{element_limit}
-use Rattle.answer.specs.declared.Answer.TheVariants.{Done}
+use Rattle.std.specs.Prelude.{Ok}
 use Rattle.answer.proofs.Chain.{Gives, clear, skip, none_found, gives}
 use Rattle.floats.specs.Values.{zero_f, one_f}
 use Rattle.lists.specs.Lists.{first_not, tab}
@@ -62,7 +62,7 @@ module _ (s : List Float) (I : Input s) where
   unfolding result_of
   result_weights = rw not_all_masked
 
-  passes : (flush : Bool) → Gives (tests flush s) Done
+  passes : (flush : Bool) → Gives (tests flush s) (Ok tt)
   unfolding first_outside
   passes flush =
       let some : (not flush && all_masked s) ≡ false = rw not_all_masked (and_false (not flush)) in

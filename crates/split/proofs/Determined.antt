@@ -3,8 +3,7 @@ use Prim.Native.Nat.{ℕ}
 use mathlib.Core.Path.{◌≡◌}
 use mathlib.Core.List.{List}
 use lib.Ieee.{Float}
-use Rattle.answer.specs.declared.Answer.{Answer}
-use Rattle.answer.specs.Answer.{Outcome}
+use Rattle.answer.specs.Answer.{Answer, Outcome}
 use Rattle.answer.proofs.Outcome.{one_outcome}
 use Rattle.split.specs.Split.{split_told, split_out}
 

@@ -1,5 +1,6 @@
 pub mod Steps
 pub mod Positive
 pub mod Passed
+pub mod Weighed
 pub mod Determined
 pub mod Place

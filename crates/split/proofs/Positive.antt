@@ -25,9 +25,8 @@ use Rattle.floats.proofs.FromOne.{one_over}
 use Rattle.lists.proofs.Sum.{sum_term}
 use Rattle.lists.proofs.Tab.{tab_map, tab_at, tab_length}
 use Rattle.softmax.specs.Softmax.{exps_of, sum_of, weights_of}
-use Rattle.softmax_facts.specs.SoftmaxFacts.{Input, SoftmaxFacts}
+use Rattle.softmax_facts.specs.SoftmaxFacts.{Input, SoftmaxFacts, count_f}
 use Rattle.softmax_facts.proofs.Facts.{softmax_facts, exps_length, weights_at, weights_length}
-use Rattle.softmax_facts.specs.SoftmaxFacts.{count_f}
 use Rattle.softmax_facts.proofs.Sum.{count_finite}
 use Rattle.floats.proofs.Order.{finite_between}
 use Rattle.parts.specs.Parts.{at, total}

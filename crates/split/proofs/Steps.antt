@@ -1,5 +1,5 @@
 -- What `steps_of` casts is the definition's whole number. Assumes nothing.
-use mathlib.Core.Path.{◌≡◌, refl, sym, ap, subst}
+use mathlib.Core.Path.{◌≡◌, refl, sym, ap, subst, ◌∙◌}
 use mathlib.Core.Bool.{true, false}
 use Prim.Native.Nat.{ℕ, ◌*◌, ◌≤◌}
 use native.Mathlib.Nat.{mul-one, le_of_eq, le_trans}
@@ -48,7 +48,7 @@ module _ (m : ℕ) (e : ℤ) (F : T (fits binary32 (fin false m e))) (h : m * up
   steps_cast = casts (code m e) (steps m e) (omega (arith, steps_few)) (even_fits (mul binary32 (fin false m e) steps_f)) steps_value
 
 -- w is a weight, and r what the code casts
-pub weight_steps : (w r : Float) → T (fits binary32 w) → is_weight w → r ≡ round_even binary32 (mul binary32 (abs_of w) steps_f)
+weight_steps : (w r : Float) → T (fits binary32 w) → is_weight w → r ≡ round_even binary32 (mul binary32 (abs_of w) steps_f)
     → Casts r (steps_of w) × (steps_of w ≤ step_count)
 unfolding le of_bits steps_over
 weight_steps nan r F b q = absurd b.0
@@ -63,3 +63,8 @@ weight_steps (fin true m e) r F b q =
     let same : steps m e ≡ closest (0 * step_count) (down e) = ap (λ k. closest (k * step_count) (down e)) n in
     let G = fits_sign binary32 true false m e F in
     (rw (q, sym same) (steps_cast m e G h), rw (sym same) (steps_few m e G h))
+
+-- the same, a being its size
+pub cast : (w a r : Float) → T (fits binary32 w) → is_weight w → a ≡ abs_of w → r ≡ round_even binary32 (mul binary32 a steps_f)
+    → Casts r (steps_of w) × (steps_of w ≤ step_count)
+cast w a r F b p q = weight_steps w r F b (q ∙ ap (λ x. round_even binary32 (mul binary32 x steps_f)) p)

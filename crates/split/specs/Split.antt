@@ -2,9 +2,8 @@
 use Rattle.std.specs.Prelude.{ℕ, ◌*◌, not, List, [], ◌∷◌, map, T, eqb, ltb, length, Float}
 use Rattle.std.specs.Float.Ieee.{le}
 use Rattle.std.specs.Float.Ieee.Nearest.{closest}
-use Rattle.answer.specs.Answer.{Test, judged, when_done, told_of}
+use Rattle.answer.specs.Answer.{Test, judged, when_done, told_of, Answer}
 use Rattle.answer.specs.Limits.{parts, step_count, band_limit}
-use Rattle.answer.specs.declared.Answer.{Answer}
 use Rattle.answer.specs.declared.Refusal.TheVariants.{Count, Length, Domain, Masked}
 use Rattle.floats.specs.Values.{zero_f, one_f}
 use Rattle.floats.specs.Fraction.{frac}

@@ -1,16 +1,17 @@
 // The split (RULES, Split): 32768 parts over the bands, in the shares of their softmax weights.
 #![tactic(auto)]
 
-ghost use Rattle.std.specs.Prelude.{map, ◌≡◌, ℕ, ◌<◌, ◌≤◌, length, get_or};
-ghost use Rattle.std.specs.Float.{nan};
+ghost use Rattle.std.specs.Prelude.{map, ◌≡◌, ℕ, ◌<◌, ◌≤◌, length};
+ghost use Rattle.std.specs.List.{All};
 ghost use Rattle.answer.specs.Answer.{told_of};
 ghost use Rattle.answer.specs.Limits.{step_count, band_limit};
 ghost use Rattle.split.specs.Split.{is_weight, steps_of, split_told, split_out};
 
 use answer::limits::{BAND_LIMIT, PARTS, STEPS};
-use answer::{Answer, Refusal, is_done};
+use answer::{Answer, Refusal};
 use floats::bits::abs;
 use floats::round::round_ties_even;
+use lists::each::map_into;
 use parts::part;
 use softmax::softmax;
 
@@ -24,32 +25,18 @@ fn steps_of(weight: f32) -> u32
     wide as u32
 }
 
-fn steps_all(weights: &[f32], steps: &mut [u32])
-    requires weights_len { length weights.now ≡ length steps.old }
-    requires by_index { (i : ℕ) → i < length weights.now → is_weight (get_or weights.now i nan) }
-    ensures { steps.new ≡ map steps_of weights.now }
-{
-    let mut i = 0;
-    while i < weights.len() {
-        steps[i] = steps_of(weights[i]);
-        i += 1;
-    }
-}
-
-// Past refusals 7 and 1: softmax gives 4 and 5, or the weights, and they go through steps to gains. The first two slices lent are for the work.
+// Past refusals 7 and 1: softmax gives 4 and 5, or the weights, and they go through steps to gains. Weights and steps are lent
+// for the work (no heap).
 fn by_weights(levels: &[f32], weights: &mut [f32], steps: &mut [u32], gains: &mut [u16]) -> Answer
     requires in_bounds { (1 ≤ length levels.now) × (length levels.now ≤ band_limit) × (length levels.now ≡ length gains.old) }
     requires levels_len { (length levels.now ≡ length weights.old) × (length levels.now ≡ length steps.old) }
     ensures told { told_of result ≡ split_told levels.now gains.old }
     ensures written { gains.new ≡ split_out levels.now gains.old }
 {
-    let answer = softmax(false, levels, weights);
-    if !is_done(answer) {
-        return answer;
-    }
-    steps_all(weights, steps);
+    softmax(false, levels, weights)?;
+    map_into(steps_of, weights, steps);
     part(PARTS as u64, steps, gains);
-    answer
+    Ok(())
 }
 
 // Refusals 7, 1, 4, 5 (RULES, Order); nothing is written before the last.
@@ -59,13 +46,13 @@ pub fn split(levels: &[f32], gains: &mut [u16]) -> Answer
 {
     let n = levels.len();
     if n < 1 {
-        return Answer::Refused(Refusal::Count);
+        return Err(Refusal::Count);
     }
     if n > BAND_LIMIT {
-        return Answer::Refused(Refusal::Count);
+        return Err(Refusal::Count);
     }
     if n != gains.len() {
-        return Answer::Refused(Refusal::Length);
+        return Err(Refusal::Length);
     }
     let mut weights = [0.0f32; BAND_LIMIT];
     let mut steps = [0u32; BAND_LIMIT];

@@ -4,7 +4,7 @@ use mathlib.Core.Path.{◌≡◌, sym, ap, ◌∙◌, subst}
 use lib.ListN.{length, get_or}
 use lib.Dec.{T}
 use lib.Ieee.{Float, nan, le, of_bits}
-use Rattle.answer.specs.declared.Answer.TheVariants.{Done}
+use Rattle.std.specs.Prelude.{Ok}
 use Rattle.answer.proofs.Numbers.{told_one}
 use Rattle.floats.specs.Values.{zero_f}
 use Rattle.floats.specs.Fraction.{frac}
@@ -32,7 +32,7 @@ demand_3 s g r l L n o =
     let m = level_steps_length step_count s in
     let f = softmax_facts s (levels_input s L) in
     record {
-      done = told_one r Done (o.told ∙ d.0);
+      done = told_one r (Ok tt) (o.told ∙ d.0);
       as_many = ap length e ∙ gains_length parts (level_steps s) k ∙ m;
       sum = ap total e ∙ gains_total parts (level_steps s) k;
       near = λ h j t. rw e (gains_nearest parts (level_steps s) k h (j ∙ sym m) t);

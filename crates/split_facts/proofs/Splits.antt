@@ -9,7 +9,7 @@ use lib.ListN.{get_or}
 use lib.Ieee.{Float, nan, inf, fin}
 use lib.Ieee.Scale.{finite}
 use Rattle.answer.specs.Answer.{judged, told_of, when_done}
-use Rattle.answer.specs.declared.Answer.TheVariants.{Done}
+use Rattle.std.specs.Prelude.{Ok}
 use Rattle.answer.proofs.Chain.{gives}
 use Rattle.floats.specs.Fraction.{frac}
 use Rattle.floats.specs.Between.{Near}
@@ -55,8 +55,8 @@ module _ (s : List Float) (L : Levels s) where
   pub levels_total : 0 < total (level_steps s)
   levels_total = steps_some step_count (lit≤ tt)
 
-  passes : Done ≡ judged (last_tests s)
-  passes = softmax_rest s s Done L.few refl (sym (called s levels_input false s refl).told)
+  passes : Ok tt ≡ judged (last_tests s)
+  passes = softmax_rest s s (Ok tt) L.few refl (sym (called s levels_input false s refl).told)
 
   pub levels_split : Splits s (gains_of (level_steps s))
   unfolding split_answer

@@ -1,13 +1,11 @@
 -- The claims on the split: demand 3, masked bands, equal bands, finer steps. Statements only.
-use Rattle.std.specs.Prelude.{ℕ, ◌+◌, ◌*◌, ◌/◌, ◌%◌, ◌^◌, ◌≤◌, ◌<◌, ◌≡◌, true, false, List, [], ◌∷◌, T, length, get_or, replicate, Float}
+use Rattle.std.specs.Prelude.{ℕ, ◌+◌, ◌*◌, ◌/◌, ◌%◌, ◌^◌, ◌≤◌, ◌<◌, ◌≡◌, true, false, List, [], ◌∷◌, T, length, get_or, replicate, Float, Ok}
 use Rattle.std.specs.Float.{nan, inf, binary32}
 use Rattle.std.specs.Float.Ieee.{fits}
 use Rattle.std.specs.Float.Ieee.Scale.{finite}
 use Rattle.lists.specs.Lists.{tab}
-use Rattle.answer.specs.Answer.{Outcome}
+use Rattle.answer.specs.Answer.{Outcome, Answer}
 use Rattle.answer.specs.Limits.{parts, step_count, band_limit}
-use Rattle.answer.specs.declared.Answer.{Answer}
-use Rattle.answer.specs.declared.Answer.TheVariants.{Done}
 use Rattle.floats.specs.Values.{f32, zero_f}
 use Rattle.floats.specs.Fraction.{frac}
 use Rattle.floats.specs.Each.{Each, Some}
@@ -27,7 +25,7 @@ pub record Levels (levels : List Float) : Type 0 where
 -- Demand 3: the gains add up to exactly 32768 (`parts`), and no list of as many whole numbers with that total lies nearer to the exact shares
 -- of the weights rounded to steps of 2^-30 (`distance a l` is the sum of |T l - 32768 a|, for a the weights in steps and T their total).
 pub record Demand3 (levels : List Float) (answer : Answer) (gains : List ℕ) : Type 0 where
-  pub done : answer ≡ Done
+  pub done : answer ≡ Ok tt
   pub as_many : length gains ≡ length levels
   pub sum : total gains ≡ 32768
   pub near : (others : List ℕ) → length others ≡ length levels → total others ≡ 32768

@@ -1,13 +1,14 @@
 -- Laws of the sums' fold, once over the sum: in a loop, over joined lists, from nothing, and what it keeps. Assumes nothing.
-use Prim.Native.Nat.{ℕ, ◌+◌, ◌-◌, ◌≤◌, ◌<◌}
-use mathlib.Core.Path.{◌≡◌, refl, sym, subst}
+use Prim.Native.Nat.{ℕ, ◌+◌, ◌≤◌, ◌<◌}
+use mathlib.Core.Path.{◌≡◌, refl, sym, ap, ◌∙◌, subst}
 use mathlib.Core.List.{List, [], ◌++◌, map, foldl-append, foldl-map}
 use lib.Dec.{T}
 use lib.Ieee.{Float, nan, binary32, sub}
 use lib.Ieee.Scale.{finite}
 use lib.ListN.{length, get_or, take, drop}
+use Rattle.std.proofs.lemmas.List.{take_all}
 use Rattle.lists.proofs.First.{Passed}
-use Rattle.lists.proofs.Fold.{fold_more, fold_run, fold_end, fold_keeps}
+use Rattle.lists.proofs.Fold.{fold_turn, fold_parted, fold_keeps}
 use Rattle.floats.specs.Floats.{finite_at}
 use Rattle.exp.specs.Exp.{exp_of}
 use Rattle.sum.specs.Sum.{step_of, sum_from}
@@ -15,22 +16,21 @@ use Rattle.sum.specs.declared.SumOp.{SumOp}
 use Rattle.sum.specs.declared.SumOp.TheVariants.{Sum, SumExpSub}
 
 module _ (op : SumOp) where
-  -- a turn of the loop
-  pub sum_more : (s : List Float) (i : ℕ) (held next : Float) → i < length s → next ≡ step_of op held (get_or s i nan)
-      → sum_from op next (drop (i + 1) s) ≡ sum_from op held (drop i s)
+  -- a turn of a loop over the elements so far
+  pub sum_turn : (s : List Float) (i : ℕ) (from held next : Float) → i < length s → held ≡ sum_from op from (take i s)
+      → next ≡ step_of op held (get_or s i nan) → next ≡ sum_from op from (take (i + 1) s)
   unfolding sum_from
-  sum_more s i held next h e = fold_more (step_of op) s nan i held next h e
+  sum_turn s i from held next h e g = fold_turn (step_of op) s nan i from held next h e g
 
-  -- a turn that takes the elements from i to j at once
-  pub sum_run : (s : List Float) (i j : ℕ) (held next : Float) → i ≤ j → next ≡ sum_from op held (take (j - i) (drop i s))
-      → sum_from op next (drop j s) ≡ sum_from op held (drop i s)
+  -- the first n at once, then the others
+  pub sum_parted : (s run tail : List Float) (n : ℕ) (held next : Float) → run ≡ take n s → tail ≡ drop n s → next ≡ sum_from op held run
+      → sum_from op next tail ≡ sum_from op held s
   unfolding sum_from
-  sum_run s i j held next h e = fold_run (step_of op) s i j held next h e
+  sum_parted s run tail n held next p q e = rw (e, p, q) (fold_parted (step_of op) s n held)
 
   -- and its end
-  pub sum_end : (s : List Float) (i : ℕ) (held : Float) → length s ≤ i → held ≡ sum_from op held (drop i s)
-  unfolding sum_from
-  sum_end s i held h = fold_end (step_of op) s i held h
+  pub sum_end : (s : List Float) (i : ℕ) (from held : Float) → length s ≤ i → held ≡ sum_from op from (take i s) → held ≡ sum_from op from s
+  sum_end s i from held h e = e ∙ ap (sum_from op from) (take_all i s h)
 
   pub sum_append : (held : Float) (s t : List Float) → sum_from op held (s ++ t) ≡ sum_from op (sum_from op held s) t
   unfolding sum_from

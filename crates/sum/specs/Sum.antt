@@ -1,19 +1,18 @@
 -- sum.rs over one lane: the five sums as ordered folds, each step rounded once in the Rust's order, and what the call tells. Definitions only.
-use Rattle.std.specs.Prelude.{ℕ, Bool, true, not, ltb, Float, length}
+use Rattle.std.specs.Prelude.{ℕ, Bool, true, not, ltb, Float, length, Result}
 use mathlib.Core.List.{List, [], ◌∷◌, foldl}
 use Rattle.std.specs.Float.{binary32}
 use Rattle.std.specs.Float.Ieee.{add, sub}
 use Rattle.std.specs.Float.Ieee.Scale.{finite}
 use Rattle.floats.specs.Floats.{mul_add, abs_of, first_not_finite}
-use Rattle.answer.specs.Answer.{Test, judged, told_of, told_with}
+use Rattle.answer.specs.Answer.{Answer, Test, judged, told_with, value_told}
 use Rattle.answer.specs.Limits.{element_limit}
-use Rattle.answer.specs.declared.Answer.{Answer}
+use Rattle.answer.specs.declared.Refusal.{Refusal}
 use Rattle.answer.specs.declared.Refusal.TheVariants.{TooMany, NotFinite, Domain}
 use Rattle.floats.specs.Values.{zero_f}
 use Rattle.exp.specs.Exp.{exp_of}
 use Rattle.sum.specs.declared.SumOp.{SumOp}
 use Rattle.sum.specs.declared.SumOp.TheVariants.{Sum, SumSquare, SumAbs, SumSquareSub, SumExpSub}
-use Rattle.sum.specs.declared.Total.{Total}
 
 -- one element more
 abbrev pub step_of : SumOp → Float → Float → Float
@@ -42,9 +41,9 @@ tests op s =
 unfoldable pub add_up_answer : SumOp → List Float → Answer
 add_up_answer op s = judged (tests op s)
 
--- what an answer tells: its number and place, and its value
-abbrev pub total_told : Total → (ℕ × ℕ) × Float
-total_told r = (told_of r.answer, r.value)
+-- what an answer tells: its number and place, and the sum, +0 where it is refused
+abbrev pub total_told : Result Float Refusal → (ℕ × ℕ) × Float
+total_told r = value_told zero_f r
 
 -- what the call tells: the fold from +0, and +0 where it is refused
 abbrev pub add_up_told : SumOp → List Float → (ℕ × ℕ) × Float

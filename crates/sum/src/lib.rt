@@ -3,14 +3,16 @@
 
 ghost use Rattle.std.specs.Prelude.{true, ◌≡◌, Float};
 ghost use Rattle.std.specs.Float.Ieee.Scale.{finite};
-ghost use Rattle.floats.specs.Floats.{first_not_finite};
+ghost use Rattle.floats.specs.Floats.{mul_add};
+ghost use Rattle.sum.specs.declared.SumOp.TheVariants.{Sum};
 ghost use Rattle.sum.specs.Sum.{step_of, sum_from, offset_ok, total_told, add_up_told};
 
-mod folds;
+mod exps;
 
+use crate::exps::sum_exp_sub;
+use answer::Refusal;
 use answer::limits::ELEMENT_LIMIT;
-use answer::{Answer, Refusal};
-use floats::bits::is_finite;
+use floats::bits::{abs_by_order, is_finite};
 use floats::scan::first_unless_shown;
 
 // The last two hold the offset that is taken from each element.
@@ -23,29 +25,28 @@ pub enum SumOp {
     SumExpSub(f32),
 }
 
-// A fold, and the first place of its elements that is not finite, or their number.
-#[derive(Clone, Copy)]
-struct Looked {
-    value: f32,
-    bad: usize,
+fn square_add(d: f32, sum: f32) -> f32
+    ensures { result ≡ mul_add d d sum }
+{
+    d * d + sum
 }
 
-#[derive(Clone, Copy)]
-pub struct Total {
-    pub answer: Answer,
-    pub value: f32,
+fn sum(held: f32, src: &[f32]) -> f32
+    ensures { result ≡ sum_from Sum held src.now }
+{
+    src.iter().fold(held, |sum, x| sum + *x)
 }
 
-// The fold from a held sum on. For the crates above.
+// The fold from a held sum on, a loop for each sum: none chooses inside. For the crates above.
 pub fn sum_from(op: SumOp, held: f32, src: &[f32]) -> f32
     ensures { result ≡ sum_from op held src.now }
 {
     match op {
-        SumOp::Sum => folds::sum(held, src),
-        SumOp::SumSquare => folds::sum_square(held, src),
-        SumOp::SumAbs => folds::sum_abs(held, src),
-        SumOp::SumSquareSub(offset) => folds::sum_square_sub(offset, held, src),
-        SumOp::SumExpSub(offset) => folds::sum_exp_sub(offset, held, src),
+        SumOp::Sum => sum(held, src),
+        SumOp::SumSquare => src.iter().fold(held, |sum, x| square_add(*x, sum)),
+        SumOp::SumAbs => src.iter().fold(held, |sum, x| sum + abs_by_order(*x)),
+        SumOp::SumSquareSub(offset) => src.iter().fold(held, |sum, x| square_add(*x - offset, sum)),
+        SumOp::SumExpSub(offset) => sum_exp_sub(offset, held, src),
     }
 }
 
@@ -53,11 +54,8 @@ fn offset_ok(op: SumOp) -> bool
     ensures { result ≡ offset_ok op }
 {
     match op {
-        SumOp::SumSquareSub(offset) => is_finite(offset),
-        SumOp::SumExpSub(offset) => is_finite(offset),
-        SumOp::Sum => true,
-        SumOp::SumSquare => true,
-        SumOp::SumAbs => true,
+        SumOp::SumSquareSub(offset) | SumOp::SumExpSub(offset) => is_finite(offset),
+        _ => true,
     }
 }
 
@@ -65,51 +63,23 @@ fn offset_ok(op: SumOp) -> bool
 fn shows_finite(op: SumOp) -> bool
     ensures { result ≡ true → (sum x : Float) → finite (step_of op sum x) ≡ true → (finite sum ≡ true) × (finite x ≡ true) }
 {
-    match op {
-        SumOp::Sum => true,
-        SumOp::SumSquare => true,
-        SumOp::SumAbs => true,
-        SumOp::SumSquareSub(offset) => true,
-        SumOp::SumExpSub(offset) => false,
-    }
+    !matches!(op, SumOp::SumExpSub(_))
 }
 
-// From a held sum on; no search where the sum itself shows that all are finite.
-fn folded(op: SumOp, held: f32, src: &[f32]) -> Looked
-    ensures value { result.value ≡ sum_from op held src.now }
-    ensures bad { result.bad ≡ first_not_finite src.now }
-{
-    let value = sum_from(op, held, src);
-    let bad = first_unless_shown(shows_finite(op) & is_finite(value), src);
-    Looked { value, bad }
-}
-
-// The sum that `op` names, from +0.
-pub fn add_up(op: SumOp, src: &[f32]) -> Total
+// The sum that `op` names, from +0; no search where the sum itself shows that all are finite.
+pub fn add_up(op: SumOp, src: &[f32]) -> Result<f32, Refusal>
     ensures { total_told result ≡ add_up_told op src.now }
 {
     if src.len() > ELEMENT_LIMIT {
-        return Total {
-            answer: Answer::Refused(Refusal::TooMany),
-            value: 0.0,
-        };
+        return Err(Refusal::TooMany);
     }
     if !offset_ok(op) {
-        return Total {
-            answer: Answer::Refused(Refusal::NotFinite),
-            value: 0.0,
-        };
+        return Err(Refusal::NotFinite);
     }
-    let sum = folded(op, 0.0, src);
-    let bad = sum.bad;
-    if bad < src.len() {
-        return Total {
-            answer: Answer::Refused(Refusal::Domain(bad)),
-            value: 0.0,
-        };
-    }
-    Total {
-        answer: Answer::Done,
-        value: sum.value,
+    let sum = sum_from(op, 0.0, src);
+    let shown = shows_finite(op) & is_finite(sum);
+    match first_unless_shown(shown, src) {
+        Some(bad) => Err(Refusal::Domain(bad)),
+        None => Ok(sum),
     }
 }

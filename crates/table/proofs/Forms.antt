@@ -13,7 +13,7 @@ use Rattle.lists.proofs.Tab.{tab_at, tab_same}
 use Rattle.lists.proofs.Placed.{filled_all}
 use Rattle.answer.specs.Limits.{band_limit, row_limit, parts}
 use Rattle.answer.specs.Answer.{judged}
-use Rattle.answer.specs.declared.Answer.{Answer}
+use Rattle.answer.specs.Answer.{Answer}
 use Rattle.answer.proofs.Chain.{gives, skip, rest}
 use Rattle.block.specs.Form.{Sound}
 use Rattle.block.specs.Block.{blocks, given}

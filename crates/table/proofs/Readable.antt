@@ -9,8 +9,8 @@ use lib.ListN.{length}
 use lib.Dec.{eqb}
 use borrow.Author.Tests.{eqb-true, eq-eqb, ne_eqb, not-false}
 use Rattle.answer.specs.Answer.{class_of, judged, when_done}
-use Rattle.answer.specs.declared.Answer.{Answer}
-use Rattle.answer.specs.declared.Answer.TheVariants.{Done, Refused}
+use Rattle.answer.specs.Answer.{Answer}
+use Rattle.std.specs.Prelude.{Ok, Err}
 use Rattle.answer.proofs.Numbers.{listed}
 use Rattle.answer.proofs.Chain.{opened, gives, skip, clear}
 use Rattle.answer.proofs.Joined.{parted}
@@ -27,14 +27,14 @@ use Rattle.table.proofs.Runs.{runs_each, runs_all}
 use Rattle.table.proofs.Reading.{begun, begun_head, body_answers, table_body_answers, Good, good, good_passes, gains_many}
 
 -- what is told with number 0 is done, and the values are those told
-pub table_done : (a : Answer) (x : Shape) (B N : ℕ) → table_told_of (table_with a x) ≡ (0, 0, B, N) → (Done ≡ a) × (x.bands ≡ B) × (x.rows ≡ N)
-table_done Done x B N e = (refl, ap (λ t. t.2) e, ap (λ t. t.3) e)
-table_done (Refused r) x B N e = absurd (let z : class_of r ≡ 0 = ap (λ t. t.0) e in omega (arith, (listed r).0))
+pub table_done : (a : Answer) (x : Shape) (B N : ℕ) → table_told_of (table_with a x) ≡ (0, 0, B, N) → ((Ok tt) ≡ a) × (x.bands ≡ B) × (x.rows ≡ N)
+table_done (Ok tt) x B N e = (refl, ap (λ t. t.2) e, ap (λ t. t.3) e)
+table_done (Err r) x B N e = absurd (let z : class_of r ≡ 0 = ap (λ t. t.0) e in omega (arith, (listed r).0))
 
 pub block_done : (a : Answer) (x : Header) (form k B N n : ℕ) → block_told_of (block_with a x) ≡ (0, 0, form, k, B, N, n)
-    → (Done ≡ a) × (x.bands ≡ B) × (x.rows ≡ N) × (x.form ≡ form)
-block_done Done x form k B N n e = (refl, ap (λ t. t.4) e, ap (λ t. t.5) e, ap (λ t. t.2) e)
-block_done (Refused r) x form k B N n e = absurd (let z : class_of r ≡ 0 = ap (λ t. t.0) e in omega (arith, (listed r).0))
+    → ((Ok tt) ≡ a) × (x.bands ≡ B) × (x.rows ≡ N) × (x.form ≡ form)
+block_done (Ok tt) x form k B N n e = (refl, ap (λ t. t.4) e, ap (λ t. t.5) e, ap (λ t. t.2) e)
+block_done (Err r) x form k B N n e = absurd (let z : class_of r ≡ 0 = ap (λ t. t.0) e in omega (arith, (listed r).0))
 
 -- a table of B bands and N rows
 pub record Reads (F : Form) (s : List ℕ) (B N : ℕ) : Type 0 where
@@ -58,7 +58,7 @@ pub reads_many : {F : Form} {s : List ℕ} {B N : ℕ} → Reads F s B N → len
 reads_many {F} {s} {B} {N} r = gains_many F s B N (sym r.bands) (sym r.rows)
 
 -- from head and body
-parts_read : {F : Form} (s : List ℕ) → Done ≡ judged (head_tests_by F s) → Done ≡ judged (body_tests_by F s)
+parts_read : {F : Form} (s : List ℕ) → (Ok tt) ≡ judged (head_tests_by F s) → (Ok tt) ≡ judged (body_tests_by F s)
     → Reads F s (bands_of (bytes_from s 0)) (rows_of (bytes_from s 0))
 unfolding body_tests_by
 parts_read s d e =
@@ -99,7 +99,7 @@ judged_reads F s B N e =
 
 -- and back
 module _ {F : Form} (s : List ℕ) (B N : ℕ) (r : Reads F s B N) (some : 0 < blocks (F.width B) N) where
-  pub head_passes : Done ≡ judged (head_tests_by F s)
+  pub head_passes : (Ok tt) ≡ judged (head_tests_by F s)
   unfolding head_tests_by
   head_passes =
       let g = r.each 0 some in
@@ -109,16 +109,16 @@ module _ {F : Form} (s : List ℕ) (B N : ℕ) (r : Reads F s B N) (some : 0 < b
       gives (skip a (skip (ap not g.checks) (skip (ap not g.head)
       (skip (rw (r.bands, r.rows, eq-eqb (length s) (512 * blocks (F.width B) N) r.long)) clear))))
 
-  body_passes : Done ≡ judged (body_tests_by F s)
+  body_passes : (Ok tt) ≡ judged (body_tests_by F s)
   unfolding body_tests_by
   body_passes = rw (r.bands, r.rows) (runs_all _ (blocks (F.width B) N) (λ k l. good_passes B N (bytes_from s (512 * k)) k (r.each k l)))
 
   pub told_read : (lent : List ℕ) → length lent ≡ N * B → read_told_by F s lent ≡ (0, 0, B, N)
   told_read lent l =
-      let e = body_answers F s (length lent) Done head_passes (rw (r.bands, r.rows) l) body_passes in
+      let e = body_answers F s (length lent) (Ok tt) head_passes (rw (r.bands, r.rows) l) body_passes in
       sym (ap (λ a. table_told_of (table_with a (shape_of (bytes_from s 0)))) e) ∙ rw (r.bands, r.rows) refl
 
   pub told_judged : table_told_by F s ≡ (0, 0, B, N)
   told_judged =
-      let e = table_body_answers F s Done head_passes body_passes in
+      let e = table_body_answers F s (Ok tt) head_passes body_passes in
       sym (ap (λ a. table_told_of (table_with a (shape_of (bytes_from s 0)))) e) ∙ rw (r.bands, r.rows) refl

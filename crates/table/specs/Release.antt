@@ -3,8 +3,10 @@
 use Rattle.std.specs.Prelude.{ℕ, ◌+◌, ◌-◌, ◌*◌, Bool, cond, List, eqb}
 use Rattle.answer.specs.Answer.{Test}
 use Rattle.answer.specs.Limits.{parts, band_limit, row_limit}
-use Rattle.answer.specs.declared.Answer.{Answer}
+use Rattle.answer.specs.Answer.{Answer}
 use Rattle.block.specs.Form.{Form}
+use Rattle.block.specs.declared.form.Form as kind
+use Rattle.block.specs.Kind.{left_out}
 use Rattle.block.specs.Block.{blocks, table_bytes}
 use Rattle.block.specs.Write.{shape_ok_by, write_answer_by, write_told_by, write_out_by}
 use Rattle.block.specs.Read.{bytes_from, word_at, head_tests_by, body_tests_by, read_answer_by, table_answer_by, table_gains_by, read_out_by}
@@ -17,6 +19,10 @@ form1 = record { code = 1; width = λ B. B; least = 1; most = band_limit; rows =
 -- the form that leaves out the last `drop` gains of a row: none, which is form 1 again, or one, which is form 2
 abbrev pub form : ℕ → Form
 form drop = record { code = 1 + drop; width = λ B. B - drop; least = 1 + drop; most = band_limit; rows = row_limit; parts = parts }
+
+-- the same by its name
+abbrev pub rules_of : kind.Form → Form
+rules_of f = form (left_out f)
 
 -- what a block's bytes f say that they leave out, and their form. A number that is neither 1 nor 2 counts as form 1, whose number it is not.
 unfoldable pub drop_in : (ℕ → ℕ) → ℕ

@@ -7,7 +7,7 @@ use native.Mathlib.Omega.{arith}
 use lib.ListN.{length}
 use borrow.Author.Tests.{eq-eqb}
 use Rattle.answer.specs.Answer.{judged}
-use Rattle.answer.specs.declared.Answer.TheVariants.{Done}
+use Rattle.std.specs.Prelude.{Ok}
 use Rattle.answer.proofs.Chain.{opened, gives, skip, rest}
 use Rattle.block.specs.Form.{Form, Sound}
 use Rattle.block.specs.Block.{blocks, held_rows}
@@ -18,7 +18,7 @@ use Rattle.block.proofs.Tests.{head_is}
 use Rattle.table.proofs.Reading.{Good, good, good_passes}
 use Rattle.table.proofs.Readable.{Reads, block_done, reads, reads_some, judged_reads, told_read, told_judged}
 use Rattle.table_facts.specs.Trips.{EachReads, ReadersAgree, JudgedAgrees}
-use Rattle.table_facts.proofs.Part.{word_same, tests_same}
+use Rattle.table.proofs.Part.{word_same, tests_same}
 
 module _ (F : Form) (s : List ℕ) (B N k : ℕ) where
   f : ℕ → ℕ
@@ -40,8 +40,8 @@ module _ (F : Form) (s : List ℕ) (B N k : ℕ) where
       let n : rows_of part ≡ N = word_same part f alike 6 (omega arith) ∙ g.rows in
       let o : word_at part 0 ≡ F.code = word_same part f alike 0 (omega arith) ∙ h.form in
       let m : word_at part 2 ≡ k = word_same part f alike 2 (omega arith) ∙ h.number in
-      let t : Done ≡ judged (block_tests_by F B N part k) = good_passes B N f k g ∙ ap judged (sym (tests_same part f alike F B N k)) in
-      let d : Done ≡ block_answer_by F k (block_of s k) = gives (skip (ap not (eq-eqb _ _ (block_long s k l))) (rest (rw (b, n) t))) in
+      let t : (Ok tt) ≡ judged (block_tests_by F B N part k) = good_passes B N f k g ∙ ap judged (sym (tests_same part f alike F B N k)) in
+      let d : (Ok tt) ≡ block_answer_by F k (block_of s k) = gives (skip (ap not (eq-eqb _ _ (block_long s k l))) (rest (rw (b, n) t))) in
       sym (ap (λ a. block_told_of (block_with a (header_by F part k))) d) ∙ rw (b, n, o, m) refl
 
   -- and the other way round
@@ -51,7 +51,7 @@ module _ (F : Form) (s : List ℕ) (B N k : ℕ) where
       let t = block_done (block_answer_by F k (block_of s k)) (header_by F part k) F.code k B N (held_rows (F.width B) N k) e in
       let b : bands_of part ≡ B = t.1 in
       let n : rows_of part ≡ N = t.2 in
-      let d : Done ≡ judged (block_tests_by F (bands_of part) (rows_of part) part k) = (opened _ _ _ t.0).1 in
+      let d : (Ok tt) ≡ judged (block_tests_by F (bands_of part) (rows_of part) part k) = (opened _ _ _ t.0).1 in
       good B N f k ((rw (b, n) at d) ∙ ap judged (tests_same part f alike F B N k))
 
 each_reads : {F : Form} → Sound F → (s : List ℕ) (B N : ℕ) → Reads F s B N → EachReads F s B N

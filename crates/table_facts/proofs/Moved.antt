@@ -9,7 +9,7 @@ use lib.ListN.{length, get_or}
 use lib.Dec.{eqb}
 use borrow.Author.Tests.{ltb-false, eqb-true, eqb-false}
 use Rattle.answer.specs.Answer.{judged, told_of, when_done}
-use Rattle.answer.specs.declared.Answer.TheVariants.{Done}
+use Rattle.std.specs.Prelude.{Ok}
 use Rattle.answer.proofs.Numbers.{zero_done}
 use Rattle.answer.proofs.Joined.{both_done}
 use Rattle.answer.proofs.Chain.{opened}
@@ -43,7 +43,7 @@ module _ (d : ℕ) (s result : List ℕ) (few : d ≤ 1) (t : move_told d s resu
   abbrev N : ℕ
   N = rows_of (bytes_from s 0)
 
-  done : Done ≡ move_answer d s (length result)
+  done : (Ok tt) ≡ move_answer d s (length result)
   done = sym (zero_done (move_answer d s (length result)) (ap (λ x. x.0) t))
 
   left : moved d s ≡ move_out d s result

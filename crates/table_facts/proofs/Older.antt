@@ -8,7 +8,7 @@ use native.Mathlib.Omega.{arith}
 use lib.ListN.{length}
 use Rattle.answer.specs.Answer.{judged, when_done}
 use Rattle.answer.specs.Limits.{band_limit}
-use Rattle.answer.specs.declared.Answer.TheVariants.{Refused}
+use Rattle.std.specs.Prelude.{Err}
 use Rattle.answer.specs.declared.Refusal.TheVariants.{Header}
 use Rattle.answer.proofs.Chain.{opened, gives, stop, skip}
 use Rattle.block.specs.Form.{Form, Sound}
@@ -37,11 +37,11 @@ module _ (F : Form) (S : Sound F) (G : Form) (s : List ℕ) (B N : ℕ) (e : tab
       let t = block_done (block_answer_by F k b) (header_by F f k) F.code k B N n h in
       let x = opened _ _ _ t.0 in
       let y = opened _ _ _ x.1 in
-      let r : Refused (Header k) ≡ block_answer_by G k b = gives (skip x.0 (skip y.0 (stop (rw (none f k t.1 t.3) refl)))) in
+      let r : Err (Header k) ≡ block_answer_by G k b = gives (skip x.0 (skip y.0 (stop (rw (none f k t.1 t.3) refl)))) in
       sym (ap (λ a. block_told_of (block_with a (header_by G f k))) r)
 
   -- the head
-  head_refused : Refused (Header 0) ≡ judged (head_tests_by G s)
+  head_refused : Err (Header 0) ≡ judged (head_tests_by G s)
   unfolding head_tests_by
   head_refused =
       let r = judged_reads F s B N e in

@@ -7,7 +7,7 @@ use lib.ListN.{length}
 use borrow.Author.Tests.{eqb-true, ltb-false, not-false}
 use Rattle.lists.proofs.First.{first_clear}
 use Rattle.answer.specs.Answer.{when_done}
-use Rattle.answer.specs.declared.Answer.TheVariants.{Done}
+use Rattle.std.specs.Prelude.{Ok}
 use Rattle.answer.proofs.Numbers.{zero_done}
 use Rattle.answer.proofs.Chain.{opened}
 use Rattle.block.specs.Form.{Form, Sound}
@@ -25,7 +25,7 @@ record Passed (F : Form) (B N : ℕ) (gains : List ℕ) : Type 0 where
   long : length gains ≡ N * B
   adds : (R : ℕ) → R < N → row_ok F.parts (gain_of gains) B R ≡ true
 
-passed : {F : Form} (B N : ℕ) (gains : List ℕ) (room : ℕ) → Done ≡ write_answer_by F B N gains room → Passed F B N gains
+passed : {F : Form} (B N : ℕ) (gains : List ℕ) (room : ℕ) → (Ok tt) ≡ write_answer_by F B N gains room → Passed F B N gains
 unfolding write_answer_by bad_row
 passed {F} B N gains room d =
     let a = opened _ _ _ d in
@@ -40,7 +40,7 @@ passed {F} B N gains room d =
 
 pub reads_back : (F : Form) → Sound F → ReadsBack F
 reads_back F S B N gains bytes lent t l =
-    let d : Done ≡ write_answer_by F B N gains (length bytes) = sym (zero_done (write_answer_by F B N gains (length bytes)) (ap (λ x. x.0) t)) in
+    let d : (Ok tt) ≡ write_answer_by F B N gains (length bytes) = sym (zero_done (write_answer_by F B N gains (length bytes)) (ap (λ x. x.0) t)) in
     let p = passed B N gains (length bytes) d in
     let T : List ℕ = table_bytes F.code (F.width B) B N gains in
     let w : T ≡ write_out_by F B N gains bytes = ap (λ a. when_done a T bytes) d in

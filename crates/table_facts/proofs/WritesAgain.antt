@@ -8,7 +8,7 @@ use lib.ListN.{length}
 use borrow.Author.Tests.{eq-eqb}
 use Rattle.lists.proofs.First.{first_end}
 use Rattle.answer.specs.Answer.{told_of}
-use Rattle.answer.specs.declared.Answer.TheVariants.{Done}
+use Rattle.std.specs.Prelude.{Ok}
 use Rattle.answer.proofs.Chain.{gives, skip, clear, found_none}
 use Rattle.block.specs.Form.{Form, Sound}
 use Rattle.block.specs.Block.{blocks}
@@ -19,7 +19,7 @@ use Rattle.table.proofs.Readable.{Reads, reads, reads_many, read_out_law}
 use Rattle.table_facts.specs.Trips.{WritesAgain}
 use Rattle.table_facts.proofs.Gains.{rows_add}
 
-pub written_done : {F : Form} → Sound F → (s : List ℕ) (B N room : ℕ) → Reads F s B N → room ≡ length s → Done ≡ write_answer_by F B N (table_gains_by F s) room
+pub written_done : {F : Form} → Sound F → (s : List ℕ) (B N room : ℕ) → Reads F s B N → room ≡ length s → (Ok tt) ≡ write_answer_by F B N (table_gains_by F s) room
 unfolding write_answer_by bad_row
 written_done {F} S s B N room r e =
     let a = first_end (row_ok F.parts (gain_of (table_gains_by F s)) B) N N (omega arith) (omega arith) (rows_add S s B N r) in

@@ -9,7 +9,7 @@ use lib.ListN.{length}
 use borrow.Author.Tests.{lt-ltb, eq-eqb}
 use Rattle.lists.proofs.Tab.{tab_length, tab_at, tab_is}
 use Rattle.lists.proofs.First.{first_end, all_pass}
-use Rattle.answer.specs.declared.Answer.TheVariants.{Done}
+use Rattle.std.specs.Prelude.{Ok}
 use Rattle.answer.specs.Answer.{judged}
 use Rattle.answer.proofs.Chain.{gives, skip, clear, found_none}
 use Rattle.block.specs.Form.{Form, Sound}
@@ -102,7 +102,7 @@ module _ (F : Form) (S : Sound F) (B N : ℕ) (gains : ℕ → ℕ) (shape : sha
       ∙ ap (λ (x : ℕ). half x ((8 + 2 * c + i) % 2)) (word_out F.code W B N gains k ((8 + 2 * c + i) / 2) (omega arith) (omega arith))
       ∙ half_zero ((8 + 2 * c + i) % 2))))
 
-  rows_pass : Done ≡ judged (row_tests_by F B N f k)
+  rows_pass : (Ok tt) ≡ judged (row_tests_by F B N f k)
   unfolding row_tests_by bad_row
   rows_pass =
       let e = first_end (row_ok F.parts (given F.parts W B (gain_in f)) B) (held_rows W N k) (held_rows W N k) (omega arith) (omega arith) row_is in

@@ -26,8 +26,7 @@ fn show<F: Files, W: Write, E: Write>(
     to: &mut Streams<W, E>,
 ) -> io::Result<()> {
     match open(files, path) {
-        Ok(file) => {
-            let mut from = file;
+        Ok(mut from) => {
             name(path, word, &mut to.out)?;
             run(&mut from, word, refusals, to);
         }
@@ -44,21 +43,17 @@ fn case<R: Files + Env, W: Write, E: Write>(
 ) -> io::Result<()>
     requires { place < 18446744073709551615 }
 {
-    let mut path = [0u8; 4096];
-    let mut word = [0u8; 4096];
-    let n = argument_at(rt, place, &mut path);
-    let m = argument_at(rt, place + 1, &mut word);
-    show(rt, &path[..n], &word[..m], refusals, to)
+    let (mut path, mut word) = ([0u8; 4096], [0u8; 4096]);
+    let path = argument_at(rt, place, &mut path).unwrap_or(b"");
+    let word = argument_at(rt, place + 1, &mut word).unwrap_or(b"");
+    show(rt, path, word, refusals, to)
 }
 
 // How many arguments there are, the program's name too.
 fn arg_count<V: Env>(arguments: &V) -> usize {
-    for place in 0..usize::MAX {
-        if !is_given(arguments, place) {
-            return place;
-        }
-    }
-    usize::MAX
+    (0..usize::MAX)
+        .find(|place| !is_given(arguments, *place))
+        .unwrap_or(usize::MAX)
 }
 
 fn main(rt: HostRuntime) -> io::Result<()> {

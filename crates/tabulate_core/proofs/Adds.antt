@@ -18,7 +18,7 @@ use Rattle.lists.proofs.First.{first_end}
 use Rattle.lists.proofs.Sum.{sum_same}
 use Rattle.lists.proofs.Tab.{tab_length, tab_at}
 use Rattle.answer.specs.Answer.{judged}
-use Rattle.answer.specs.declared.Answer.TheVariants.{Done}
+use Rattle.std.specs.Prelude.{Ok}
 use Rattle.answer.proofs.Chain.{done_is, opened, gives, skip, found_none, clear}
 use Rattle.floats.specs.Each.{Each}
 use Rattle.answer.specs.Limits.{parts, step_count, band_limit}
@@ -43,7 +43,7 @@ levels_fit B s r i h =
 
 module _ {B N : ℕ} {s : List ℕ} (p : Shaped B N s) (d : AllDone B s N) where
   -- past split's tests of its lengths
-  last_tests_law : (r : ℕ) → r < N → Done ≡ judged (last_tests (row_levels B s r))
+  last_tests_law : (r : ℕ) → r < N → Ok tt ≡ judged (last_tests (row_levels B s r))
   unfolding row_answer split_answer
   last_tests_law r h = (opened _ _ _ (opened _ _ _ (opened _ _ _ (done_is (row_answer B s r) (d r h))).1).1).1
 
@@ -52,7 +52,7 @@ module _ {B N : ℕ} {s : List ℕ} (p : Shaped B N s) (d : AllDone B s N) where
       let l = tab_length (λ j. level_at s (r * B + j)) B in
       let few : length (row_levels B s r) ≤ band_limit = omega (arith, p.most) in
       steps_total step_count (lit≤ tt) (row_levels B s r)
-      (done_input (row_levels B s r) Done (omega (arith, p.some)) few (levels_fit B s r) refl (last_tests_law r h)) (le_trans few (lit≤ tt))
+      (done_input (row_levels B s r) (omega (arith, p.some)) few (levels_fit B s r) (last_tests_law r h)) (le_trans few (lit≤ tt))
 
   row_length : (r : ℕ) → r < N → length (row_gains B s r) ≡ B
   unfolding row_gains
@@ -94,7 +94,7 @@ module _ {B N : ℕ} {s : List ℕ} (p : Shaped B N s) (d : AllDone B s N) where
       ∙ ap (sum_to (at (row_gains B s r))) (sym (row_length r h)) ∙ row_total r h)
 
   -- so the table is written
-  pub writes : Done ≡ write_answer B N (gains_to B s N) (table_length B N)
+  pub writes : Ok tt ≡ write_answer B N (gains_to B s N) (table_length B N)
   unfolding write_answer_by bad_row
   writes =
       let z : Within form1 B N = record { some = p.some; most = p.most; rows = p.first; last = p.last } in

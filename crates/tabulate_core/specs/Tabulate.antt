@@ -1,13 +1,12 @@
 -- `tabulate` (docs/DECISIONS.md, point 12): what it tells of an argument and an input, and what it leaves in the lent bytes. Definitions only.
-use Rattle.std.specs.Prelude.{ℕ, ◌+◌, ◌-◌, ◌*◌, ◌/◌, not, cond, List, [], ◌∷◌, ◌++◌, ltb, eqb, length, take, drop}
-use Rattle.answer.specs.Answer.{Test, judged, when_done, class_of, where_of}
-use Rattle.answer.specs.declared.Answer.{Answer}
-use Rattle.answer.specs.declared.Answer.TheVariants.{Done, Refused}
+use Rattle.std.specs.Prelude.{ℕ, ◌+◌, ◌-◌, ◌*◌, ◌/◌, not, cond, List, [], ◌∷◌, ◌++◌, ltb, eqb, length, take, drop, Ok, Err}
+use Rattle.answer.specs.Answer.{Test, judged, when_done, class_of, where_of, Answer}
 use Rattle.answer.specs.declared.Refusal.TheVariants.{Count, StoredLength}
 use Rattle.table.specs.Release.{shape_ok, table_length, table_of}
 use Rattle.tabulate_core.specs.Argument.{bands_in}
 use Rattle.tabulate_core.specs.Rows.{gains_to, stop_of}
-use Rattle.tabulate_core.specs.declared.Tabulated.{Tabulated}
+use Rattle.tabulate_core.specs.Stop.{stop_class, stop_where}
+use Rattle.tabulate_core.specs.declared.Stop.{Stop}
 
 -- the rows of 4 B bytes in n bytes, a cut one counted
 unfoldable pub rows_in : ℕ → ℕ → ℕ
@@ -21,14 +20,19 @@ shape_tests B N n room =
     ∷ (ltb room (table_length B N), StoredLength)
     ∷ []
 
+-- the bytes of the table, or why there is none
+abbrev pub Tabulated : Type 0
+Tabulated = Rattle.std.specs.declared.result.Result.Result ℕ Stop
+
 -- number, place, and the bytes of the table
 abbrev pub tabulated_of : Tabulated → ℕ × ℕ × ℕ
-tabulated_of t = (t.number, t.place, t.length)
+tabulated_of (Ok n) = (0, 0, n)
+tabulated_of (Err s) = (stop_class s, stop_where s, 0)
 
 -- a refusal, or else what comes next
 abbrev pub or_else : Answer → ℕ × ℕ × ℕ → ℕ × ℕ × ℕ
-or_else Done next = next
-or_else (Refused r) next = (class_of r, where_of r, 0)
+or_else (Ok tt) next = next
+or_else (Err r) next = (class_of r, where_of r, 0)
 
 -- all rows: the first refusal, or the table
 unfoldable pub stored_told : ℕ → ℕ → List ℕ → ℕ × ℕ × ℕ

@@ -1,193 +1,174 @@
 // A stored table from levels: the number of bands as a decimal word, rows of little-endian f32 levels, each split into gains.
 #![tactic(auto)]
 
-ghost use Rattle.std.specs.Prelude.{◌≡◌, ◌+◌, ◌*◌, ◌≤◌, ◌<◌, length};
+ghost use Rattle.std.specs.Prelude.{◌≡◌, ◌+◌, ◌*◌, ◌≤◌, ◌<◌, map, length, IfSome};
+ghost use Rattle.answer.specs.Answer.{told_of, class_of, where_of};
 ghost use Rattle.answer.specs.Limits.{band_limit};
-ghost use Rattle.tabulate_core.specs.Argument.{bands_in};
-ghost use Rattle.tabulate_core.specs.Rows.{pattern_of, level_at, levels_from};
-ghost use Rattle.tabulate_core.specs.Asked.{Row, Shaped, Split};
+ghost use Rattle.split.specs.Split.{split_told, split_out};
+ghost use Rattle.tabulate_core.specs.Argument.{bands_named};
+ghost use Rattle.tabulate_core.specs.Rows.{level_of};
+ghost use Rattle.tabulate_core.specs.Stop.{stop_class, stop_where};
+ghost use Rattle.tabulate_core.specs.Asked.{OfRow, Shaped, Split};
 ghost use Rattle.table.specs.Release.{table_length};
 ghost use Rattle.tabulate_core.specs.Tabulate.{tabulated_of, stored_told, stored_out, tabulate_told, tabulate_out};
 
 use answer::limits::{BAND_LIMIT, GAIN_LIMIT};
-use answer::{Answer, is_done, number, place};
+use answer::{Answer, Refusal};
 use block::counts::{blocks_of, shape_ok};
 use floats::bits::from_pattern;
+use lists::each::map_into;
 use split::split;
 use table::LEAST;
 
-// The number and place (RULES, Numbers), and the bytes of the table, 0 where refused.
+// Why no table is stored: refusals 7 and 9, and 4 and 5 of the first row that the split refuses, with a level's place through the rows.
 #[derive(Clone, Copy)]
-pub struct Tabulated {
-    pub number: u8,
-    pub place: usize,
-    pub length: usize,
+pub enum Stop {
+    Count,
+    StoredLength,
+    Domain(usize),
+    Masked(usize),
 }
 
-// The first row that the split refuses: its number and its place through the rows; 0 and 0 where none is.
-#[derive(Clone, Copy)]
-struct Stop {
-    number: u8,
-    place: usize,
+impl Stop {
+    // Its number in the list (RULES, Numbers).
+    pub fn number(self) -> u8
+        ensures { result ≡ stop_class self }
+    {
+        match self {
+            Stop::Domain(_) => 4,
+            Stop::Masked(_) => 5,
+            Stop::Count => 7,
+            Stop::StoredLength => 9,
+        }
+    }
+
+    // The level, for a masked row its first; 0 where the number has no place.
+    pub fn place(self) -> usize
+        ensures { result ≡ stop_where self }
+    {
+        match self {
+            Stop::Domain(level) | Stop::Masked(level) => level,
+            _ => 0,
+        }
+    }
 }
 
-fn wide(x: u8) -> usize
-    ensures { (result ≡ x) × (result < 256) }
-{
-    x as usize
-}
-
-// The bands that a word names: decimal digits only, no more than the most. 0 for any other word.
-pub fn bands_in(word: &[u8]) -> usize
-    ensures bands { result ≡ bands_in word.now }
-    ensures most { result ≤ band_limit }
+// The bands that a word names: decimal digits only, from 1 to the most.
+pub fn bands_in(word: &[u8]) -> Option<usize>
+    ensures bands { result ≡ bands_named word.now }
+    ensures within { IfSome result (λ b. (1 ≤ b) × (b ≤ band_limit)) }
 {
     let mut v: usize = 0;
-    let mut i = 0;
-    while i < word.len() {
-        let b = wide(word[i]);
-        if b < 48 {
-            return 0;
+    for b in word {
+        if !b.is_ascii_digit() {
+            return None;
         }
-        if b > 57 {
-            return 0;
-        }
-        v = 10 * v + (b - 48);
+        v = 10 * v + usize::from(*b - b'0');
         if v > BAND_LIMIT {
-            return 0;
+            return None;
         }
-        i += 1;
     }
-    v
+    if v == 0 { None } else { Some(v) }
 }
 
-// The pattern of four bytes, the low one first.
-fn pattern(a: u8, b: u8, c: u8, d: u8) -> u32
-    ensures { result ≡ pattern_of a b c d }
+// The level of four bytes, the low one first.
+fn level(bytes: [u8; 4]) -> f32
+    ensures { result ≡ level_of bytes }
 {
-    a as u32 + 256 * (b as u32) + 65536 * (c as u32) + 16777216 * (d as u32)
+    from_pattern(u32::from_le_bytes(bytes))
 }
 
-// Level i of the input.
-fn level_at(input: &[u8], i: usize) -> f32
-    requires { 4 * i + 4 ≤ length input.now }
-    ensures { result ≡ level_at input.now i }
+// Splits a row of levels. The first slice lent is for the work.
+fn split_by(row: &[[u8; 4]], levels: &mut [f32], gains: &mut [u16]) -> Answer
+    requires { length row.now ≡ length levels.old }
+    ensures told { told_of result ≡ split_told (map level_of row.now) gains.old }
+    ensures written { gains.new ≡ split_out (map level_of row.now) gains.old }
 {
-    let at = 4 * i;
-    from_pattern(pattern(input[at], input[at + 1], input[at + 2], input[at + 3]))
-}
-
-fn levels_from(input: &[u8], from: usize, levels: &mut [f32])
-    requires { 4 * (from + length levels.old) ≤ length input.now }
-    ensures { levels.new ≡ levels_from input.now from (length levels.old) }
-{
-    let mut i = 0;
-    while i < levels.len() {
-        levels[i] = level_at(input, from + i);
-        i += 1;
-    }
-}
-
-// Splits the levels from level `from` on, as many as the gains. The first slice lent is for the work.
-fn split_from(input: &[u8], from: usize, levels: &mut [f32], gains: &mut [u16]) -> Answer
-    requires { (length levels.old ≡ length gains.old) × (4 * (from + length gains.old) ≤ length input.now) }
-    ensures { Row input.now from gains.old result gains.new }
-{
-    levels_from(input, from, levels);
+    map_into(level, row, levels);
     split(levels, gains)
 }
 
-fn split_row(input: &[u8], from: usize, gains: &mut [u16]) -> Answer
-    requires { (length gains.old ≤ band_limit) × (4 * (from + length gains.old) ≤ length input.now) }
-    ensures { Row input.now from gains.old result gains.new }
+fn split_row(row: &[[u8; 4]], gains: &mut [u16]) -> Answer
+    requires { length row.now ≤ band_limit }
+    ensures told { told_of result ≡ split_told (map level_of row.now) gains.old }
+    ensures written { gains.new ≡ split_out (map level_of row.now) gains.old }
 {
-    let n = gains.len();
     let mut levels = [0.0f32; BAND_LIMIT];
-    split_from(input, from, &mut levels[..n], gains)
+    split_by(row, &mut levels[..row.len()], gains)
 }
 
-// Splits the rows in order, up to the first that is refused.
-fn split_rows(bands: usize, rows: usize, input: &[u8], gains: &mut [u16]) -> Stop
+// The refusal of a row whose first level is `first`.
+fn in_row(first: usize, why: Refusal) -> Stop
+    requires { OfRow why × (first + where_of why < 18446744073709551616) }
+    ensures class { stop_class result ≡ class_of why }
+    ensures place { stop_where result ≡ first + where_of why }
+{
+    match why {
+        Refusal::Domain(level) => Stop::Domain(first + level),
+        _ => Stop::Masked(first),
+    }
+}
+
+// Splits the rows in order, up to the first that is refused. (By place: of the chunks that `chunks_exact_mut` lends a proof knows no element.)
+fn split_rows(bands: usize, rows: usize, input: &[u8], gains: &mut [u16]) -> Result<(), Stop>
     requires shaped { Shaped bands rows input.now }
     requires gains_len { length gains.old ≡ rows * bands }
     ensures { Split bands rows input.now result gains.new }
 {
-    let mut row = 0;
-    let mut at = 0;
-    while row < rows {
-        let end = at + bands;
-        let answer = split_row(input, at, &mut gains[at..end]);
-        if !is_done(answer) {
-            return Stop {
-                number: number(answer),
-                place: at + place(answer),
-            };
+    let (levels, _) = input.as_chunks::<4>();
+    for row in 0..rows {
+        let first = row * bands;
+        let end = first + bands;
+        if let Err(why) = split_row(&levels[first..end], &mut gains[first..end]) {
+            return Err(in_row(first, why));
         }
-        at = end;
-        row += 1;
     }
-    Stop {
-        number: 0,
-        place: 0,
-    }
+    Ok(())
 }
 
 // Splits all rows, then writes their table over the lent bytes. The gains lent are for the work.
-fn store(bands: usize, rows: usize, input: &[u8], gains: &mut [u16], bytes: &mut [u8]) -> Tabulated
+fn store(
+    bands: usize,
+    rows: usize,
+    input: &[u8],
+    gains: &mut [u16],
+    bytes: &mut [u8],
+) -> Result<usize, Stop>
     requires shaped { Shaped bands rows input.now }
     requires gains_len { (length gains.old ≡ rows * bands) × (length bytes.old ≡ table_length bands rows) }
     ensures told { tabulated_of result ≡ stored_told bands rows input.now }
     ensures written { bytes.new ≡ stored_out bands rows input.now bytes.old }
 {
-    let stop = split_rows(bands, rows, input, gains);
-    let number = stop.number;
-    if number != 0 {
-        return Tabulated {
-            number: number,
-            place: stop.place,
-            length: 0,
-        };
-    }
-    table::write(bands as u32, rows as u32, gains, bytes);
-    Tabulated {
-        number: 0,
-        place: 0,
-        length: bytes.len(),
-    }
+    split_rows(bands, rows, input, gains)?;
+    table::write(bands as u32, rows as u32, gains, bytes).unwrap();
+    Ok(bytes.len())
 }
 
-fn refused(number: u8) -> Tabulated
-    ensures { tabulated_of result ≡ (number, 0, 0) }
-{
-    Tabulated {
-        number: number,
-        place: 0,
-        length: 0,
-    }
-}
-
-// The table of the rows in the input, put at the start of the lent bytes; they stay as they were where it is refused.
-pub fn tabulate(word: &[u8], input: &[u8], bytes: &mut [u8]) -> Tabulated
+// The table of the rows in the input, put at the start of the lent bytes, and its length; they stay as they were where it is refused.
+pub fn tabulate(word: &[u8], input: &[u8], bytes: &mut [u8]) -> Result<usize, Stop>
     ensures told { tabulated_of result ≡ tabulate_told word.now input.now (length bytes.old) }
     ensures written { bytes.new ≡ tabulate_out word.now input.now bytes.old }
 {
-    let bands = bands_in(word);
-    if bands < 1 {
-        return refused(7);
-    }
-    let row_bytes = 4 * bands;
-    let rows = (input.len() + (row_bytes - 1)) / row_bytes;
+    let Some(bands) = bands_in(word) else {
+        return Err(Stop::Count);
+    };
+    let rows = input.len().div_ceil(4 * bands);
     if !shape_ok(LEAST, bands, rows) {
-        return refused(7);
+        return Err(Stop::Count);
     }
     if input.len() != 4 * (rows * bands) {
-        return refused(9);
+        return Err(Stop::StoredLength);
     }
     let end = 512 * blocks_of(bands, rows);
     if bytes.len() < end {
-        return refused(9);
+        return Err(Stop::StoredLength);
     }
     let mut gains = [0u16; GAIN_LIMIT];
-    let n = rows * bands;
-    store(bands, rows, input, &mut gains[..n], &mut bytes[..end])
+    store(
+        bands,
+        rows,
+        input,
+        &mut gains[..rows * bands],
+        &mut bytes[..end],
+    )
 }

@@ -10,6 +10,7 @@ use consts::{TANH_CUTOFF, TANH_P1, TANH_P3, TANH_P5, TANH_P7, TANH_P9, TANH_SMAL
 use exp::exp_within;
 use floats::bits::abs_by_order;
 
+// A line for each step, as in exp's poly.
 fn small(square: f32, size: f32) -> f32
     ensures { result ≡ small_of square size }
 {
@@ -33,12 +34,12 @@ fn chosen(x: f32, size: f32) -> f32
     let low = small(x * x, size);
     let high = medium(exp_within(size * 2.0));
     if size <= TANH_SMALL {
-        return low;
+        low
+    } else if size >= TANH_CUTOFF {
+        1.0
+    } else {
+        high
     }
-    if size >= TANH_CUTOFF {
-        return 1.0;
-    }
-    high
 }
 
 // Up to TANH_TINY the result is x itself, so a zero keeps its sign; past it the order against zero tells the sign.
@@ -48,7 +49,10 @@ pub fn tanh(x: f32) -> f32
     let size = abs_by_order(x);
     let y = chosen(x, size);
     if size <= TANH_TINY {
-        return x;
+        x
+    } else if x <= 0.0 {
+        -y
+    } else {
+        y
     }
-    if x <= 0.0 { -y } else { y }
 }

@@ -2,7 +2,7 @@
 use mathlib.Core.List.{List}
 use mathlib.Core.Path.{◌≡◌}
 use lib.Ieee.{Float}
-use Rattle.answer.specs.declared.Answer.{Answer}
+use Rattle.answer.specs.Answer.{Answer}
 use Rattle.answer.specs.Answer.{Outcome}
 use Rattle.answer.proofs.Outcome.{one_outcome}
 use Rattle.unary.specs.Unary.{apply_told, apply_out}

@@ -1,4 +1,3 @@
 pub mod Arms
 pub mod Determined
 pub mod Place
-pub mod Shown

@@ -5,7 +5,7 @@ use Rattle.std.specs.Float.Ieee.{le, lt}
 use Rattle.std.specs.Float.Ieee.Scale.{finite}
 use Rattle.answer.specs.Answer.{Test, judged, told_of, when_done}
 use Rattle.answer.specs.Limits.{element_limit}
-use Rattle.answer.specs.declared.Answer.{Answer}
+use Rattle.answer.specs.Answer.{Answer}
 use Rattle.answer.specs.declared.Refusal.TheVariants.{Length, TooMany, NotFinite, Domain}
 use Rattle.floats.specs.Values.{zero_f}
 use Rattle.consts.specs.Consts.{large_threshold}
@@ -66,9 +66,13 @@ alpha_ok ApproxGelu = true
 alpha_ok Sin = true
 alpha_ok Cos = true
 
+-- the element at place i of a list is in the domain
+abbrev pub inside_at : Op → List Float → ℕ → Bool
+inside_at op s i = in_domain op (get_or s i nan)
+
 -- the first place outside the domain, or the length
 unfoldable pub first_outside : Op → List Float → ℕ
-first_outside op s = first_not (λ i. in_domain op (get_or s i nan)) (length s)
+first_outside op s = first_not (inside_at op s) (length s)
 
 -- the tests of a call, in the order of RULES, Order
 abbrev pub tests : Op → List Float → List Float → List Test

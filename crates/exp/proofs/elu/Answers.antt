@@ -5,6 +5,6 @@ pub returns-then-x : goal.returns-then-x
 unfolding elu_of
 returns-then-x c = simp c.if-x.true
 
-pub returns : goal.returns
+pub returns-else-x : goal.returns-else-x
 unfolding elu_of
-returns c = simp c.if-x.false (cc)
+returns-else-x c = simp c.if-x.false (cc)

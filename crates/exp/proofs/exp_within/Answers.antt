@@ -16,9 +16,9 @@ ended-nan : ended nan exp_underflow ≡ ended nan nan
 unfolding add sub mul sum of_bits
 ended-nan = refl
 
-pub float_to_bits-s : goal.float_to_bits-s
+pub float_to_bits-k : goal.float_to_bits-k
 unfolding is_nan of_bits
-float_to_bits-s c = read_number exp_underflow _ c.at_least.result tt c.at_least.ensures
+float_to_bits-k c = read_number exp_underflow _ c.at_least.result tt c.at_least.ensures
 
 pub returns : goal.returns
 unfolding exp_of of_bits le lt eq

@@ -22,12 +22,12 @@ pub returns-then-x : goal.returns-then-x
 unfolding reduced_range_exp_of
 returns-then-x c = simp c.if-x.true
 
-pub float_to_bits-s : goal.float_to_bits-s
+pub float_to_bits-k : goal.float_to_bits-k
 unfolding is_nan of_bits
-float_to_bits-s c = read_number exp_lower_cutoff _ c.at_least.result tt c.at_least.ensures
+float_to_bits-k c = read_number exp_lower_cutoff _ c.at_least.result tt c.at_least.ensures
 
 pub float_from_bits-result : goal.float_from_bits-result
-float_from_bits-result c = low_zero c.shl_23.result (omega arith)
+float_from_bits-result c = low_zero _ (omega arith)
 
 -- the cutoff is a number and below 0
 range : (x v : Float) → Reads exp_lower_cutoff x v → InRange v

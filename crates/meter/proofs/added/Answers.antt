@@ -1,28 +1,26 @@
-use mathlib.Core.Path.{refl, ◌∙◌, ap}
-use native.Mathlib.Omega.{arith}
+use Rattle.std.proofs.Common.{get_or, refl, sym, ap, ◌∙◌, arith}
+use lib.Ieee.{nan}
 use Rattle.lists.specs.Lists.{sum_to}
-use Rattle.lists.proofs.Sum.{sum_none, sum_more}
+use Rattle.lists.proofs.Sum.{sum_none, sum_more, bit_small}
 use Rattle.sum.specs.declared.SumOp.TheVariants.{SumSquare}
 use Rattle.sum.proofs.Fold as squares
-use Rattle.meter.specs.Meter.{over_at, overs_in}
-use borrow.Author.Rules.{rules}
+use Rattle.meter.specs.Meter.{over_at, overs_in, is_over}
 use Rattle.meter.proofs.added.Goals as goal
 
-pub loop-i-init : goal.loop-i-init
-loop-i-init c = (search rules, omega arith, sum_none _, refl)
+pub loop-x-init : goal.loop-x-init
+loop-x-init c = (omega arith, sum_none _, sym (squares.sum_none SumSquare _))
 
-pub loop-i-preserved : goal.loop-i-preserved
-loop-i-preserved c = (
-  search rules,
-  omega arith,
-  sum_more (over_at c.args.src.now) c.loop-i.i c.loop-i.overs _ c.loop-i.invariant.2 c.over-overs.ensures.over,
-  squares.sum_more SumSquare c.args.src.now c.loop-i.i c.loop-i.squares _ c.loop-i-test.true refl ∙ c.loop-i.invariant.3,
-)
+pub loop-x-preserved : goal.loop-x-preserved
+loop-x-preserved c =
+    let i = c.loop-x.x-index in (
+      omega (arith, c.over-overs.ensures, bit_small (is_over (get_or c.args.src.now i nan))),
+      sum_more (over_at c.args.src.now) i c.loop-x.overs _ c.loop-x.invariant.1 c.over-overs.ensures,
+      squares.sum_turn SumSquare c.args.src.now i _ c.loop-x.squares _ c.loop-x-test.true c.loop-x.invariant.2 refl,
+    )
 
 pub returns-clause-squares : goal.returns-clause-squares
-unfolding overs_in
-returns-clause-squares c = squares.sum_end SumSquare c.args.src.now c.loop-i.i c.loop-i.squares c.loop-i-test.false ∙ c.loop-i.invariant.3
+returns-clause-squares c = squares.sum_end SumSquare c.args.src.now c.loop-x.x-index _ c.loop-x.squares c.loop-x-test.false c.loop-x.invariant.2
 
 pub returns-clause-overs : goal.returns-clause-overs
 unfolding overs_in
-returns-clause-overs c = c.loop-i.invariant.2 ∙ ap (sum_to (over_at c.args.src.now)) (omega arith)
+returns-clause-overs c = c.loop-x.invariant.1 ∙ ap (sum_to (over_at c.args.src.now)) (omega arith)

@@ -1,25 +1,26 @@
 -- As in `normalize`, with no length to ask about.
-use mathlib.Core.Path.{sym, ◌∙◌}
-use Rattle.answer.proofs.Chain.{rest, breaks, ends}
-use Rattle.normalize.specs.Normalize.{tests, results, in_place_answer}
-use Rattle.normalize.proofs.Passing.{may_fill}
+use Rattle.std.proofs.Common.{◌≡◌, is_some, sym, ◌∙◌, Err, rules}
+use Rattle.answer.proofs.Chain.{rest, refuses, finishes}
+use Rattle.normalize.specs.Normalize.{list_of, tests, results, in_place_answer}
+use Rattle.normalize.proofs.Passing.{passing}
 use Rattle.normalize.proofs.normalize_in_place.Goals as goal
 
-pub returns-then-not-is_done : goal.returns-then-not-is_done
+pub returns-in_err-judge : goal.returns-in_err-judge
 unfolding in_place_answer
-returns-then-not-is_done c =
-    let both = breaks {ts = tests c.args.settings c.args.has_scale c.args.element_scale.now c.args.has_bias c.args.element_bias.now c.args.buf.now} (results c.args.settings c.args.has_scale c.args.element_scale.now c.args.has_bias c.args.element_bias.now c.args.buf.now) c.args.buf.now
-    c.judge-a.result (sym c.is_done.ensures ∙ c.if-not-is_done.true) (rest c.judge-a.ensures) in
-    record { told = both.0; written = both.1 }
+returns-in_err-judge c =
+    let same : c.from_residual.result ≡ Err c.in_err-judge.field-0.0 = search rules in
+    let both = refuses {ts = tests c.args.settings (is_some c.args.element_scale) (list_of c.args.element_scale) (is_some c.args.element_bias) (list_of c.args.element_bias) c.args.buf.now}
+    (results c.args.settings (is_some c.args.element_scale) (list_of c.args.element_scale) (is_some c.args.element_bias) (list_of c.args.element_bias) c.args.buf.now) c.args.buf.now
+    (rest (sym c.in_err-judge.was ∙ c.judge.ensures)) in
+    record { told = rw same both.0; written = both.1 }
 
 pub fill_in_place-requires : goal.fill_in_place-requires
-fill_in_place-requires c =
-    may_fill c.args.settings c.args.has_scale c.args.element_scale.now c.args.has_bias c.args.element_bias.now c.args.buf.now c.judge-a.result
-    (sym c.is_done.ensures ∙ c.if-not-is_done.false) c.judge-a.ensures
+fill_in_place-requires c = (passing c.args.settings _ _ _ _ _ (sym c.in_ok-judge.was ∙ c.judge.ensures)).0
 
 pub returns : goal.returns
 unfolding in_place_answer
 returns c =
-    let both = ends {ts = tests c.args.settings c.args.has_scale c.args.element_scale.now c.args.has_bias c.args.element_bias.now c.args.buf.now} (results c.args.settings c.args.has_scale c.args.element_scale.now c.args.has_bias c.args.element_bias.now c.args.buf.now) c.args.buf.now
-    c.judge-a.result (sym c.is_done.ensures ∙ c.if-not-is_done.false) c.fill_in_place.ensures (rest c.judge-a.ensures) in
+    let both = finishes {ts = tests c.args.settings (is_some c.args.element_scale) (list_of c.args.element_scale) (is_some c.args.element_bias) (list_of c.args.element_bias) c.args.buf.now}
+    (results c.args.settings (is_some c.args.element_scale) (list_of c.args.element_scale) (is_some c.args.element_bias) (list_of c.args.element_bias) c.args.buf.now) c.args.buf.now
+    c.fill_in_place.ensures (rest (sym c.in_ok-judge.was ∙ c.judge.ensures)) in
     record { told = both.0; written = both.1 }

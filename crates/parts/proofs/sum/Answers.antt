@@ -1,16 +1,8 @@
-use mathlib.Core.Path.{refl, ap, ◌∙◌}
-use native.Mathlib.Omega.{arith}
-use Rattle.lists.specs.Lists.{sum_to}
-use Rattle.lists.proofs.Sum.{sum_none, sum_more}
-use Rattle.parts.specs.Parts.{at, total}
+use Rattle.std.proofs.Common.{◌≡◌, ◌∙◌, rules, sum_by}
+use Rattle.parts.proofs.Sums.{total_is}
 use Rattle.parts.proofs.sum.Goals as goal
 
-pub loop-i-init : goal.loop-i-init
-loop-i-init c = (omega arith, sum_none _, omega arith)
-
-pub loop-i-preserved : goal.loop-i-preserved
-loop-i-preserved c = (omega arith, sum_more _ c.loop-i.i c.loop-i.t _ c.loop-i.invariant.1 refl, omega (arith, c.shared_slice_known-1.given c.loop-i.i))
-
 pub returns : goal.returns
-unfolding total
-returns c = c.loop-i.invariant.1 ∙ ap (sum_to (at c.args.a.now)) (omega arith)
+returns c =
+    let e : c.sum.result ≡ sum_by (λ x. x) c.args.a.now = search rules in
+    e ∙ total_is c.args.a.now

@@ -1,13 +1,15 @@
 -- Each return is the first test of the list that holds (`Gives`): what that answer tells, and what it leaves. Past all four dst is filled with the codes.
-use Rattle.std.proofs.Common.{true, length, drop, ◌≤◌, ℕ, ◌≡◌, Float, List, map, sym, ◌∙◌, ap}
+use Rattle.std.proofs.Common.{rules, true, length, drop, ◌≤◌, ℕ, ◌≡◌, Float, List, map, sym, ◌∙◌, ap}
 use mathlib.Core.Bool.{not}
 use borrow.Author.Tests.{lt-ltb, le-ltb, eq-eqb, ne_eqb}
 use Rattle.answer.specs.Answer.{when_done, told_of}
 use Rattle.answer.specs.Limits.{element_limit}
 use lib.Ieee.Scale.{finite}
-use Rattle.answer.specs.declared.Answer.{Answer}
+use Rattle.answer.specs.Answer.{Answer}
 use Rattle.answer.specs.declared.Refusal.TheVariants.{Domain}
-use Rattle.answer.proofs.Chain.{Gives, told_and_left, clear, stop, skip, found, found_none}
+use Rattle.answer.proofs.Chain.{Gives, told_and_left, clear, stop, skip, found_at, found_nowhere}
+use Rattle.floats.specs.Floats.{finite_at}
+use Rattle.lists.proofs.Turns.{zip_map}
 use Rattle.quantize.specs.Quantize.{code_of, tests, quantize_answer, quantize_told, quantize_out}
 use Rattle.quantize.proofs.quantize.Goals as goal
 
@@ -43,12 +45,12 @@ returns-then-not-is_finite c =
     (stop (ap not (sym c.is_finite.ensures ∙ c.if-not-is_finite.true))))) in
     record { told = o.0; written = o.1 }
 
-pub returns-then-bad-src : goal.returns-then-bad-src
-returns-then-bad-src c =
+pub returns-in-Some : goal.returns-in-Some
+returns-in-Some c =
     let x = c.args in
     let o = outcome x.inv_scale x.zero_point x.src.now x.dst.now
     (past _ _ _ c.if-src-dst.false c.if-src-gt-ELEMENT_LIMIT.false (sym c.is_finite.ensures ∙ c.if-not-is_finite.false)
-    (found Domain _ c.first_not_finite-bad.ensures c.if-bad-src.true)) in
+    (found_at Domain (finite_at x.src.now) (length x.src.now) c.in-Some.at (sym c.in-Some.is ∙ c.first_not_finite.ensures))) in
     record { told = o.0; written = o.1 }
 
 pub returns : goal.returns
@@ -56,5 +58,6 @@ returns c =
     let x = c.args in
     let o = outcome x.inv_scale x.zero_point x.src.now x.dst.now
     (past _ _ _ c.if-src-dst.false c.if-src-gt-ELEMENT_LIMIT.false (sym c.is_finite.ensures ∙ c.if-not-is_finite.false)
-    (found_none _ c.first_not_finite-bad.ensures c.if-bad-src.false clear)) in
-    record { told = o.0; written = c.fill.ensures ∙ o.1 }
+    (found_nowhere (finite_at x.src.now) (length x.src.now) (sym c.in_default.is ∙ c.first_not_finite.ensures) clear)) in
+    let codes = zip_map _ (code_of x.inv_scale x.zero_point) _ _ (λ y n h. search rules) c.map_into.ensures in
+    record { told = o.0; written = codes ∙ o.1 }

@@ -15,7 +15,7 @@ returns-then-size c = let fit : T (fits binary32 c.args.y) = subst T (sym c.well
     let size_is : c.round_ties_even-size.result ≡ sized c.args.y = c.round_ties_even-size.ensures ∙ ap (round_even binary32) c.abs_by_order.ensures in
     (below_top c.args.y c.round_ties_even-size.result fit size_is c.if-size.true).1
 
-pub returns : goal.returns
-returns c = let fit : T (fits binary32 c.args.y) = subst T (sym c.well_formed.0.1) tt in
+pub returns-else-size : goal.returns-else-size
+returns-else-size c = let fit : T (fits binary32 c.args.y) = subst T (sym c.well_formed.0.1) tt in
     let size_is : c.round_ties_even-size.result ≡ sized c.args.y = c.round_ties_even-size.ensures ∙ ap (round_even binary32) c.abs_by_order.ensures in
     past_top c.args.y c.round_ties_even-size.result fit size_is c.if-size.false

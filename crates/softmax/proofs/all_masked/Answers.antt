@@ -1,10 +1,9 @@
-use mathlib.Core.Path.{sym, ◌∙◌}
-use Rattle.softmax.proofs.Domain.{not_all, at_end}
+use Rattle.std.proofs.Common.{rules}
+use Rattle.softmax.proofs.Domain.{masked_all, masked_none}
 use Rattle.softmax.proofs.all_masked.Goals as goal
 
-pub returns-then-not-is_masked : goal.returns-then-not-is_masked
-returns-then-not-is_masked c = not_all _ c.loop-i.i c.loop-i.invariant.1 c.loop-i-test.true
-    (sym c.is_masked.ensures ∙ c.if-not-is_masked.true)
+pub returns-then-not-is_empty : goal.returns-then-not-is_empty
+returns-then-not-is_empty c = masked_all c.args.src.now c.each_masked.result (search rules) c.each_masked.ensures
 
-pub returns : goal.returns
-returns c = at_end _ c.loop-i.i c.loop-i.invariant.1 c.loop-i.invariant.0 c.loop-i-test.false
+pub returns-else-not-is_empty : goal.returns-else-not-is_empty
+returns-else-not-is_empty c = rw c.if-not-is_empty.false (masked_none c.args.src.now (search rules))

@@ -1,8 +1,14 @@
-use Rattle.lists.proofs.Placed.{filled_end}
-use mathlib.Core.Path.{◌∙◌}
-use lib.Ieee.{nan}
-use Rattle.lists.proofs.Tab.{tab_map}
+-- The factor is the reciprocal of the sum, and each element is multiplied by it.
+use Rattle.std.proofs.Common.{ap, ◌∙◌, rules}
+use Rattle.std.specs.Float.{binary32}
+use Rattle.std.specs.Float.Ieee.{mul, div}
+use Rattle.floats.specs.Values.{one_f}
+use Rattle.lists.proofs.Turns.{zip_map}
+use Rattle.softmax.specs.Softmax.{sum_of, scaled_by}
 use Rattle.softmax.proofs.scale.Goals as goal
 
 pub returns : goal.returns
-returns c = filled_end c.args.buf.now c.loop-i.buf c.loop-i.i c.loop-i.invariant.1 c.loop-i-test.false ∙ tab_map _ nan c.args.buf.now
+unfolding sum_of
+returns c =
+    let times = zip_map _ (λ x. mul binary32 x (div binary32 one_f c.sum_from.result)) _ _ (λ x y h. search rules) c.map_in_place.ensures in
+    times ∙ ap (λ t. scaled_by t c.args.buf.now) c.sum_from.ensures

@@ -1,14 +1,15 @@
 -- A refusal is the length's, or `judge`'s with nothing written. Where it is done all is in the domain (`done_domain`), so no element less the maximum is
 -- above zero; all masked gives zeros (`result_clear`), and else the passes together are the result (`result_passes`).
-use Rattle.std.proofs.Common.{Bool, Float, List, ◌∷◌, length, sym, ◌∙◌, ap}
+use Rattle.std.proofs.Common.{◌≡◌, Bool, Float, List, ◌∷◌, length, sym, ◌∙◌, ap, Err, rules}
 use mathlib.Core.Bool.{not}
 use lib.Dec.{eqb}
 use borrow.Author.Tests.{eq-eqb, ne_eqb}
 use Rattle.answer.specs.Answer.{Test}
 use Rattle.answer.specs.declared.Refusal.TheVariants.{Length}
-use Rattle.answer.proofs.Chain.{stop, skip, rest, refuses, breaks, ends}
-use Rattle.softmax.specs.Softmax.{tests, result_of, softmax_answer, in_place_answer}
-use Rattle.softmax.proofs.Maximum.{not_above}
+use Rattle.answer.proofs.Chain.{stop, skip, rest, refuses, finishes}
+use Rattle.lists.proofs.Turns.{zip_map}
+use Rattle.softmax.specs.Softmax.{tests, result_of, exp_less, softmax_answer, in_place_answer}
+use Rattle.softmax.proofs.Maximum.{not_above_at}
 use Rattle.softmax.proofs.Result.{result_clear, result_passes, done_domain}
 use Rattle.softmax.proofs.softmax.Goals as goal
 
@@ -23,35 +24,32 @@ returns-then-src-dst c =
     (stop (ap not (ne_eqb _ _ c.if-src-dst.true))) in
     record { told = both.0; written = both.1 }
 
-pub returns-then-not-is_done : goal.returns-then-not-is_done
+pub returns-in_err-judge : goal.returns-in_err-judge
 unfolding softmax_answer in_place_answer
-returns-then-not-is_done c =
-    let both = breaks {ts = all c.args.flush c.args.src.now c.args.dst.now} (result_of c.args.src.now) c.args.dst.now
-    c.judge-answer.result (sym c.is_done.ensures ∙ c.if-not-is_done.true)
-    (skip (ap not (eq-eqb _ _ c.if-src-dst.false)) (rest c.judge-answer.ensures)) in
-    record { told = both.0; written = both.1 }
+returns-in_err-judge c =
+    let same : c.from_residual.result ≡ Err c.in_err-judge.field-0.0 = search rules in
+    let both = refuses {ts = all c.args.flush c.args.src.now c.args.dst.now} (result_of c.args.src.now) c.args.dst.now
+    (skip (ap not (eq-eqb _ _ c.if-src-dst.false)) (rest (sym c.in_err-judge.was ∙ c.judge.ensures))) in
+    record { told = rw same both.0; written = both.1 }
 
 pub returns-then-all_masked : goal.returns-then-all_masked
 unfolding softmax_answer in_place_answer
 returns-then-all_masked c =
-    let both = ends {ts = all c.args.flush c.args.src.now c.args.dst.now} (result_of c.args.src.now) c.args.dst.now
-    c.judge-answer.result (sym c.is_done.ensures ∙ c.if-not-is_done.false)
-    (result_clear c.args.src.now _ _ (sym c.all_masked.ensures ∙ c.if-all_masked.true) c.if-src-dst.false c.clear.ensures)
-    (skip (ap not (eq-eqb _ _ c.if-src-dst.false)) (rest c.judge-answer.ensures)) in
+    let both = finishes {ts = all c.args.flush c.args.src.now c.args.dst.now} (result_of c.args.src.now) c.args.dst.now
+    (result_clear c.args.src.now _ _ (sym c.all_masked.ensures ∙ c.if-all_masked.true) c.if-src-dst.false (c.fill.ensures.after (λ y e. e)))
+    (skip (ap not (eq-eqb _ _ c.if-src-dst.false)) (rest (sym c.in_ok-judge.was ∙ c.judge.ensures))) in
     record { told = both.0; written = both.1 }
 
-pub exps-requires-clause-by_index : goal.exps-requires-clause-by_index
-exps-requires-clause-by_index c =
-    let done = sym c.is_done.ensures ∙ c.if-not-is_done.false in
-    let inside = done_domain c.args.src.now _ c.judge-answer.result done c.judge-answer.ensures in
-    λ i h. rw c.max.ensures (not_above c.args.src.now inside i h)
+pub map_into-requires-clause-callable : goal.map_into-requires-clause-callable
+map_into-requires-clause-callable c =
+    let inside = done_domain c.args.src.now _ (sym c.in_ok-judge.was ∙ c.judge.ensures) in
+    λ k d h κ p n u. rw c.max-max.ensures (not_above_at c.args.src.now inside k d h)
 
 pub returns : goal.returns
 unfolding softmax_answer in_place_answer
 returns c =
-    let both = ends {ts = all c.args.flush c.args.src.now c.args.dst.now} (result_of c.args.src.now) c.args.dst.now
-    c.judge-answer.result (sym c.is_done.ensures ∙ c.if-not-is_done.false)
-    (result_passes c.args.src.now c.max.result c.sum.result _ _ (sym c.all_masked.ensures ∙ c.if-all_masked.false) c.max.ensures
-    c.exps.ensures c.sum.ensures c.scale.ensures)
-    (skip (ap not (eq-eqb _ _ c.if-src-dst.false)) (rest c.judge-answer.ensures)) in
+    let exps = zip_map _ (exp_less c.max-max.result) _ _ (λ x y h. search rules) c.map_into.ensures in
+    let both = finishes {ts = all c.args.flush c.args.src.now c.args.dst.now} (result_of c.args.src.now) c.args.dst.now
+    (result_passes c.args.src.now c.max-max.result _ _ (sym c.all_masked.ensures ∙ c.if-all_masked.false) c.max-max.ensures exps c.scale.ensures)
+    (skip (ap not (eq-eqb _ _ c.if-src-dst.false)) (rest (sym c.in_ok-judge.was ∙ c.judge.ensures))) in
     record { told = both.0; written = both.1 }

@@ -1,30 +1,28 @@
 -- As in `softmax`, with no length to ask about, and each pass over what the one before it left in buf.
-use mathlib.Core.Path.{refl, sym, ◌∙◌}
-use Rattle.answer.proofs.Chain.{rest, ends}
-use Rattle.softmax.specs.Softmax.{tests, result_of, in_place_answer}
-use Rattle.softmax.proofs.Maximum.{not_above}
+use Rattle.std.proofs.Common.{refl, sym, ◌∙◌, rules}
+use Rattle.answer.proofs.Chain.{rest, finishes}
+use Rattle.lists.proofs.Turns.{zip_map}
+use Rattle.softmax.specs.Softmax.{tests, result_of, exp_less, in_place_answer}
+use Rattle.softmax.proofs.Maximum.{not_above_at}
 use Rattle.softmax.proofs.Result.{result_clear, result_passes, done_domain}
 use Rattle.softmax.proofs.softmax_in_place.Goals as goal
 
 pub returns-then-all_masked-clause-written : goal.returns-then-all_masked-clause-written
 unfolding in_place_answer
 returns-then-all_masked-clause-written c =
-    (ends {ts = tests c.args.flush c.args.buf.now} (result_of c.args.buf.now) c.args.buf.now
-    c.judge-answer.result (sym c.is_done.ensures ∙ c.if-not-is_done.false)
-    (result_clear c.args.buf.now _ _ (sym c.all_masked.ensures ∙ c.if-all_masked.true) refl c.clear.ensures)
-    (rest c.judge-answer.ensures)).1
+    (finishes {ts = tests c.args.flush c.args.buf.now} (result_of c.args.buf.now) c.args.buf.now
+    (result_clear c.args.buf.now _ _ (sym c.all_masked.ensures ∙ c.if-all_masked.true) refl (c.fill.ensures.after (λ y e. e)))
+    (rest (sym c.in_ok-judge.was ∙ c.judge.ensures))).1
 
-pub exps_in_place-requires : goal.exps_in_place-requires
-exps_in_place-requires c =
-    let done = sym c.is_done.ensures ∙ c.if-not-is_done.false in
-    let inside = done_domain c.args.buf.now _ c.judge-answer.result done c.judge-answer.ensures in
-    λ i h. rw c.max.ensures (not_above c.args.buf.now inside i h)
+pub map_in_place-requires : goal.map_in_place-requires
+map_in_place-requires c =
+    let inside = done_domain c.args.buf.now _ (sym c.in_ok-judge.was ∙ c.judge.ensures) in
+    λ k d h κ p n u. rw c.max-max.ensures (not_above_at c.args.buf.now inside k d h)
 
 pub returns-clause-written : goal.returns-clause-written
 unfolding in_place_answer
 returns-clause-written c =
-    (ends {ts = tests c.args.flush c.args.buf.now} (result_of c.args.buf.now) c.args.buf.now
-    c.judge-answer.result (sym c.is_done.ensures ∙ c.if-not-is_done.false)
-    (result_passes c.args.buf.now c.max.result c.sum.result _ _ (sym c.all_masked.ensures ∙ c.if-all_masked.false) c.max.ensures
-    c.exps_in_place.ensures c.sum.ensures c.scale.ensures)
-    (rest c.judge-answer.ensures)).1
+    let exps = zip_map _ (exp_less c.max-max.result) _ _ (λ x y h. search rules) c.map_in_place.ensures in
+    (finishes {ts = tests c.args.flush c.args.buf.now} (result_of c.args.buf.now) c.args.buf.now
+    (result_passes c.args.buf.now c.max-max.result _ _ (sym c.all_masked.ensures ∙ c.if-all_masked.false) c.max-max.ensures exps c.scale.ensures)
+    (rest (sym c.in_ok-judge.was ∙ c.judge.ensures))).1

@@ -9,6 +9,6 @@ pub loop-done-preserved : goal.loop-done-preserved
 loop-done-preserved g c =
     let from = c.loop-done.done in
     let room = length c.loop-done.buf - from in
-    let read = c.read_some-n in
-    let joined = filled_more from room read.result c.loop-done.buf read.new.buf c.loop-done.invariant.1 read.ensures.prefix.0 in
-    (search rules, search rules, subst (Consumes _ _) joined (Consumes-trans _ _ _ _ _ c.loop-done.invariant.2 read.ensures.bytes))
+    let read = c.in-Ok.ensures in
+    let joined = filled_more from room c.in-Ok.n c.loop-done.buf c.read.new.buf c.loop-done.invariant.1 read.bound.0 in
+    (search rules, search rules, subst (Consumes _ _) joined (Consumes-trans _ _ _ _ _ c.loop-done.invariant.2 read.bytes.0))

@@ -10,8 +10,8 @@ pub returns-then-size-2 : goal.returns-then-size-2
 unfolding size_of
 returns-then-size-2 c past = simp (past, c.if-size.false, c.if-size-2.true)
 
-pub returns : goal.returns
+pub returns-else-size-2 : goal.returns-else-size-2
 unfolding size_of
-returns c past = let w = doubled_within c.args.size c.if-size.false c.if-size-2.false in
+returns-else-size-2 c past = let w = doubled_within c.args.size c.if-size.false c.if-size-2.false in
     let e = c.exp_within.ensures w.0 w.1 in
     simp (past, c.if-size.false, c.if-size-2.false) (cc e)

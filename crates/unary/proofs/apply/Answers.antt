@@ -1,14 +1,15 @@
 -- Each return is the first test of the list that holds, those before it passed (`past`, `skip`); past all four the domain holds, and dst is the mapped list.
-use Rattle.std.proofs.Common.{◌≡◌, ◌≤◌, List, length, drop, sym, ◌∙◌, ap, subst, Float, map, true, not}
+use Rattle.std.proofs.Common.{◌≡◌, ◌≤◌, List, length, drop, sym, ◌∙◌, ap, Float, map, true, not}
+use lib.Ieee.{nan}
 use borrow.Author.Tests.{eq-eqb, ne_eqb, lt-ltb, le-ltb}
-use Rattle.answer.specs.Answer.{told_of, when_done}
+use Rattle.std.proofs.lemmas.List.Elements.{All-from_get_or}
+use Rattle.answer.specs.Answer.{Answer, told_of, when_done}
 use Rattle.answer.specs.Limits.{element_limit}
-use Rattle.answer.specs.declared.Answer.{Answer}
 use Rattle.answer.specs.declared.Refusal.TheVariants.{Domain}
-use Rattle.answer.proofs.Chain.{Gives, told_and_left, clear, stop, skip, found, found_none}
-use Rattle.lists.proofs.First.{first_clear}
+use Rattle.answer.proofs.Chain.{Gives, told_and_left, clear, stop, skip, found_at, found_nowhere}
+use Rattle.lists.proofs.Found.{none_passed}
 use Rattle.unary.specs.declared.Op.{Op}
-use Rattle.unary.specs.Unary.{tests, first_outside, apply_answer, apply_told, apply_out, eval_of, alpha_ok}
+use Rattle.unary.specs.Unary.{tests, first_outside, inside_at, in_domain, apply_answer, apply_told, apply_out, eval_of, alpha_ok}
 use Rattle.unary.proofs.apply.Goals as goal
 
 -- what the first test that holds tells and leaves
@@ -40,22 +41,25 @@ returns-then-not-alpha_ok c =
     (stop (ap not (sym c.alpha_ok.ensures ∙ c.if-not-alpha_ok.true))))) in
     record { told = o.0; written = o.1 }
 
-pub returns-then-bad-src : goal.returns-then-bad-src
-returns-then-bad-src c =
-    let o = outcome c.args.op c.args.src.now c.args.dst.now
+pub returns-in-Some : goal.returns-in-Some
+unfolding first_outside
+returns-in-Some c =
+    let s = c.args.src.now in
+    let o = outcome c.args.op s c.args.dst.now
     (past _ _ _ c.if-src-dst.false c.if-src-gt-ELEMENT_LIMIT.false (sym c.alpha_ok.ensures ∙ c.if-not-alpha_ok.false)
-    (found Domain _ c.first_outside-bad.ensures c.if-bad-src.true)) in
+    (found_at Domain (inside_at c.args.op s) (length s) c.in-Some.at (sym c.in-Some.is ∙ c.first_outside.ensures))) in
     record { told = o.0; written = o.1 }
 
-pub fill-requires-clause-by_index : goal.fill-requires-clause-by_index
-unfolding first_outside
-fill-requires-clause-by_index c =
+pub fill-requires-clause-inside : goal.fill-requires-clause-inside
+fill-requires-clause-inside c =
     let s = c.args.src.now in
-    first_clear _ _ (subst (λ n. length s ≤ n) c.first_outside-bad.ensures c.if-bad-src.false)
+    All-from_get_or (λ x. in_domain c.args.op x ≡ true) s nan (none_passed (inside_at c.args.op s) (length s) (sym c.in_default.is ∙ c.first_outside.ensures))
 
 pub returns : goal.returns
+unfolding first_outside
 returns c =
-    let o = outcome c.args.op c.args.src.now c.args.dst.now
+    let s = c.args.src.now in
+    let o = outcome c.args.op s c.args.dst.now
     (past _ _ _ c.if-src-dst.false c.if-src-gt-ELEMENT_LIMIT.false (sym c.alpha_ok.ensures ∙ c.if-not-alpha_ok.false)
-    (found_none _ c.first_outside-bad.ensures c.if-bad-src.false clear)) in
+    (found_nowhere (inside_at c.args.op s) (length s) (sym c.in_default.is ∙ c.first_outside.ensures) clear)) in
     record { told = o.0; written = c.fill.ensures ∙ o.1 }

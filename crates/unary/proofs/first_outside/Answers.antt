@@ -1,21 +1,13 @@
--- All places before i are in the domain (`Passed`): one that isn't is the first (`first_at`), and where the look or the loop finds none it is the length (`first_end`).
-use mathlib.Core.Path.{sym, ◌∙◌}
-use lib.ListN.{length}
-use Rattle.lists.proofs.First.{first_at, first_end}
-use Rattle.unary.specs.Unary.{first_outside}
-use borrow.Author.Rules.{rules}
+-- Each search is by the domain of the case matched; Sin and Cos have one domain.
+use mathlib.Core.Path.{ap}
+use mathlib.Core.Logic.{⊎_elim}
+use Rattle.unary.specs.Unary.{in_domain}
+use Rattle.unary.specs.declared.Op.TheVariants.{ReducedRangeExp, Sin}
+use Rattle.unary.proofs.Arms.{looked}
 use Rattle.unary.proofs.first_outside.Goals as goal
 
-pub returns-then-not-any_outside : goal.returns-then-not-any_outside
-unfolding first_outside
-returns-then-not-any_outside c = let n = length c.args.src.now in
-    first_end _ n n (search rules) (search rules) (c.any_outside.ensures c.if-not-any_outside.true)
+pub returns-in-ReducedRangeExp : goal.returns-in-ReducedRangeExp
+returns-in-ReducedRangeExp c = looked _ ReducedRangeExp _ (ap in_domain c.in-ReducedRangeExp.is) c.first_failing.ensures (λ x b h. h)
 
-pub returns-then-not-in_domain : goal.returns-then-not-in_domain
-unfolding first_outside
-returns-then-not-in_domain c = first_at _ _ c.loop-i.i c.loop-i-test.true c.loop-i.invariant.1
-    (sym c.in_domain.ensures ∙ c.if-not-in_domain.true)
-
-pub returns : goal.returns
-unfolding first_outside
-returns c = first_end _ _ c.loop-i.i c.loop-i.invariant.0 c.loop-i-test.false c.loop-i.invariant.1
+pub returns-in-Sin : goal.returns-in-Sin
+returns-in-Sin c = looked _ Sin _ (⊎_elim (λ e. ap in_domain e) (λ e. ap in_domain e) c.in-Sin.is) c.first_failing-in-Sin.ensures (λ x b h. h)

@@ -1,7 +1,8 @@
-use mathlib.Core.Path.{ap}
+use mathlib.Core.Path.{ap, sym, ◌∙◌}
+use native.Mathlib.Omega.{arith}
+use Rattle.min_max.specs.MinMax.{extremes_told}
 use Rattle.min_max.proofs.Place.{extremes_place}
-use Rattle.pack.proofs.Packing.{fits_word}
 use Rattle.masoritun.proofs.c_min_max.mst_min_max.Goals as goal
 
 pub pack-requires : goal.pack-requires
-pack-requires c = fits_word c.min_max-extremes.result.answer _ (ap (λ t. t.0) c.min_max-extremes.ensures) (extremes_place c.args.src.now)
+pack-requires c = omega (arith, ap (λ t. t.0.1) (ap extremes_told (sym c.in-Err.is) ∙ c.min_max.ensures), extremes_place c.args.src.now)

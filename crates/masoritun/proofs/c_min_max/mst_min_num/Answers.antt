@@ -1,7 +1,7 @@
 use mathlib.Core.Path.{ap}
+use native.Mathlib.Omega.{arith}
 use Rattle.min_max.proofs.Place.{extremes_place}
-use Rattle.pack.proofs.Packing.{fits_word}
 use Rattle.masoritun.proofs.c_min_max.mst_min_num.Goals as goal
 
-pub pack-requires : goal.pack-requires
-pack-requires c = fits_word c.min_num-extreme.result.answer _ (ap (λ t. t.0) c.min_num-extreme.ensures) (extremes_place c.args.src.now)
+pub give-requires : goal.give-requires
+give-requires c = omega (arith, ap (λ t. t.0.1) c.min_num.ensures, extremes_place c.args.src.now)

@@ -3,4 +3,4 @@ use Rattle.masoritun.proofs.Told.{block_fits}
 use Rattle.masoritun.proofs.c_table.mst_table_read_block.Goals as goal
 
 pub pack-requires : goal.pack-requires
-pack-requires c = block_fits c.args.number c.ranges.number.fits c.args.bytes.now c.read_block-answer.result c.read_block-answer.ensures.told _ c.in-Refused.is
+pack-requires c = block_fits c.args.number c.ranges.number.fits c.args.bytes.now c.read_block.result c.read_block.ensures.told _ c.in-Err.is

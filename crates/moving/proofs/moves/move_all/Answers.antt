@@ -6,4 +6,4 @@ use Rattle.moving.proofs.moves.move_all.Goals as goal
 
 pub returns : goal.returns
 unfolding table_bytes
-returns c = filled_all _ _ _ _ _ c.loop-k.invariant.2 c.requires.stores.2 (omega arith)
+returns c = filled_all _ _ _ _ _ c.loop-k.invariant.1 c.requires.room (omega (arith, c.blocks-k-end.ensures, c.loop-k-test.false))

@@ -1,67 +1,70 @@
--- Each return is the first test that holds, past those before it. Where the look shows that nothing is to be searched, both
+-- Each return is the first test that holds, past those before it (`past_four`). Where the look shows that nothing is to be searched, both
 -- searches would find nothing (`none_found`). Past the first two tests the slices in use fit (`fit`), as the callees ask.
 use mathlib.Core.Path.{sym, ◌∙◌, ap}
 use mathlib.Core.Bool.{not}
 use borrow.Author.Tests.{lt-ltb, le-ltb}
 use Rattle.answer.specs.declared.Refusal.TheVariants.{Domain, Result}
-use Rattle.answer.proofs.Chain.{clear, stop, skip, found, found_none, none_found, gives}
+use Rattle.answer.proofs.Chain.{clear, stop, skip, found_at, found_nowhere, none_found, gives}
 use Rattle.normalize.specs.Normalize.{first_bad, first_nan_result}
+use Rattle.normalize.specs.Scaling.{all_finite, number_by}
+use Rattle.normalize.proofs.Passing.{past_four}
+use Rattle.normalize.proofs.Searched.{found_by}
+use Rattle.std.proofs.Common.{rules}
+use Rattle.normalize.proofs.judging.judge.Goals.{then-unfit-via-then-unfit, then-unfit-via-else-unfit+then-unfit-2}
 use Rattle.normalize.proofs.judging.judge.Goals as goal
 
 pub returns-then-unfit : goal.returns-then-unfit
-returns-then-unfit c = gives (stop (sym c.unfit.ensures ∙ c.if-unfit.true))
-
-pub returns-then-unfit-2 : goal.returns-then-unfit-2
-returns-then-unfit-2 c = gives
-    (skip (sym c.unfit.ensures ∙ c.if-unfit.false)
-    (stop (sym c.unfit-2.ensures ∙ c.if-unfit-2.true)))
+returns-then-unfit c = elim c.then-unfit.branch [
+  | then-unfit-via-then-unfit w ↦ gives (stop (sym c.unfit.ensures ∙ w.if-unfit.true))
+  | then-unfit-via-else-unfit+then-unfit-2 w ↦ gives
+      (skip (sym c.unfit.ensures ∙ w.if-unfit.false)
+      (stop (sym w.unfit-else-unfit.ensures ∙ w.if-unfit-2.true)))
+]
 
 pub returns-then-n-gt-ELEMENT_LIMIT : goal.returns-then-n-gt-ELEMENT_LIMIT
 returns-then-n-gt-ELEMENT_LIMIT c = gives
     (skip (sym c.unfit.ensures ∙ c.if-unfit.false)
-    (skip (sym c.unfit-2.ensures ∙ c.if-unfit-2.false)
+    (skip (sym c.unfit-else-unfit.ensures ∙ c.if-unfit-2.false)
     (stop (lt-ltb _ _ c.if-n-gt-ELEMENT_LIMIT.true))))
 
-pub returns-then-not-settings_ok : goal.returns-then-not-settings_ok
-returns-then-not-settings_ok c = gives
+pub returns-then-not-are_finite : goal.returns-then-not-are_finite
+returns-then-not-are_finite c = gives
     (skip (sym c.unfit.ensures ∙ c.if-unfit.false)
-    (skip (sym c.unfit-2.ensures ∙ c.if-unfit-2.false)
+    (skip (sym c.unfit-else-unfit.ensures ∙ c.if-unfit-2.false)
     (skip (le-ltb _ _ c.if-n-gt-ELEMENT_LIMIT.false)
-    (stop (ap not (sym c.settings_ok.ensures ∙ c.if-not-settings_ok.true))))))
+    (stop (ap not (sym c.are_finite.ensures ∙ c.if-not-are_finite.true))))))
 
 pub returns-then-not-needs_search : goal.returns-then-not-needs_search
 unfolding first_bad first_nan_result
 returns-then-not-needs_search c =
     let sound = c.needs_search.ensures c.if-not-needs_search.true in
-    gives
-    (skip (sym c.unfit.ensures ∙ c.if-unfit.false)
-    (skip (sym c.unfit-2.ensures ∙ c.if-unfit-2.false)
-    (skip (le-ltb _ _ c.if-n-gt-ELEMENT_LIMIT.false)
-    (skip (ap not (sym c.settings_ok.ensures ∙ c.if-not-settings_ok.false))
-    (none_found (λ i h. (sound i h).0) (none_found (λ i h. (sound i h).1) clear))))))
+    past_four c.args.by.settings _ _ _ _ _ (sym c.unfit.ensures ∙ c.if-unfit.false) (sym c.unfit-else-unfit.ensures ∙ c.if-unfit-2.false) c.if-n-gt-ELEMENT_LIMIT.false
+    (sym c.are_finite.ensures ∙ c.if-not-are_finite.false)
+    (none_found (λ i h. (sound i h).0) (none_found (λ i h. (sound i h).1) clear))
 
-pub returns-then-bad-n : goal.returns-then-bad-n
-returns-then-bad-n c = gives
-    (skip (sym c.unfit.ensures ∙ c.if-unfit.false)
-    (skip (sym c.unfit-2.ensures ∙ c.if-unfit-2.false)
-    (skip (le-ltb _ _ c.if-n-gt-ELEMENT_LIMIT.false)
-    (skip (ap not (sym c.settings_ok.ensures ∙ c.if-not-settings_ok.false))
-    (found Domain _ c.first_bad-bad.ensures c.if-bad-n.true)))))
+pub returns-in-Some : goal.returns-in-Some
+unfolding first_bad
+returns-in-Some c =
+    let bad = found_by _ _ (all_finite c.args.by c.args.src.now) c.first_failing.ensures (λ i b h. search rules) in
+    past_four c.args.by.settings _ _ _ _ _ (sym c.unfit.ensures ∙ c.if-unfit.false) (sym c.unfit-else-unfit.ensures ∙ c.if-unfit-2.false) c.if-n-gt-ELEMENT_LIMIT.false
+    (sym c.are_finite.ensures ∙ c.if-not-are_finite.false)
+    (found_at Domain _ _ c.in-Some.at (sym c.in-Some.is ∙ bad))
 
-pub returns-then-nan_at-n : goal.returns-then-nan_at-n
-returns-then-nan_at-n c = gives
-    (skip (sym c.unfit.ensures ∙ c.if-unfit.false)
-    (skip (sym c.unfit-2.ensures ∙ c.if-unfit-2.false)
-    (skip (le-ltb _ _ c.if-n-gt-ELEMENT_LIMIT.false)
-    (skip (ap not (sym c.settings_ok.ensures ∙ c.if-not-settings_ok.false))
-    (found_none _ c.first_bad-bad.ensures c.if-bad-n.false
-    (found Result _ c.first_nan-nan_at.ensures c.if-nan_at-n.true))))))
+pub returns-in-Some-first_failing : goal.returns-in-Some-first_failing
+unfolding first_bad first_nan_result
+returns-in-Some-first_failing c =
+    let bad = found_by _ _ (all_finite c.args.by c.args.src.now) c.first_failing.ensures (λ i b h. search rules) in
+    let nan_at = found_by _ _ (number_by c.args.by c.args.src.now) c.first_failing-2.ensures (λ i b h. search rules) in
+    past_four c.args.by.settings _ _ _ _ _ (sym c.unfit.ensures ∙ c.if-unfit.false) (sym c.unfit-else-unfit.ensures ∙ c.if-unfit-2.false) c.if-n-gt-ELEMENT_LIMIT.false
+    (sym c.are_finite.ensures ∙ c.if-not-are_finite.false)
+    (found_nowhere _ _ (sym c.in_default.is ∙ bad)
+    (found_at Result _ _ c.in-Some-first_failing.at (sym c.in-Some-first_failing.is ∙ nan_at)))
 
 pub returns : goal.returns
-returns c = gives
-    (skip (sym c.unfit.ensures ∙ c.if-unfit.false)
-    (skip (sym c.unfit-2.ensures ∙ c.if-unfit-2.false)
-    (skip (le-ltb _ _ c.if-n-gt-ELEMENT_LIMIT.false)
-    (skip (ap not (sym c.settings_ok.ensures ∙ c.if-not-settings_ok.false))
-    (found_none _ c.first_bad-bad.ensures c.if-bad-n.false
-    (found_none _ c.first_nan-nan_at.ensures c.if-nan_at-n.false clear))))))
+unfolding first_bad first_nan_result
+returns c =
+    let bad = found_by _ _ (all_finite c.args.by c.args.src.now) c.first_failing.ensures (λ i b h. search rules) in
+    let nan_at = found_by _ _ (number_by c.args.by c.args.src.now) c.first_failing-2.ensures (λ i b h. search rules) in
+    past_four c.args.by.settings _ _ _ _ _ (sym c.unfit.ensures ∙ c.if-unfit.false) (sym c.unfit-else-unfit.ensures ∙ c.if-unfit-2.false) c.if-n-gt-ELEMENT_LIMIT.false
+    (sym c.are_finite.ensures ∙ c.if-not-are_finite.false)
+    (found_nowhere _ _ (sym c.in_default.is ∙ bad) (found_nowhere _ _ (sym c.in_default-first_failing.is ∙ nan_at) clear))

@@ -1,12 +1,8 @@
-use Prim.Native.Nat.{◌-◌, ◌≤◌}
 use mathlib.Core.Path.{◌≡◌}
-use Rattle.answer.specs.declared.Answer.TheVariants.{Done}
-use Rattle.table.specs.Release.{form}
+use Rattle.std.specs.Prelude.{Ok}
+use Rattle.table.specs.Release.{rules_of}
 use Rattle.table.proofs.Reading.{runs_of}
 use Rattle.table.proofs.judge.body.Given as goal
 
 abbrev pub invariant-loop-k : goal.invariant-loop-k
-invariant-loop-k l = (l.k ≤ l.n) × (Done ≡ runs_of (form l.drop) l.bytes l.bands l.rows l.k)
-
-abbrev pub decreases-loop-k : goal.decreases-loop-k
-decreases-loop-k l = l.n - l.k
+invariant-loop-k l = Ok tt ≡ runs_of (rules_of l.t.form) l.bytes l.t.bands l.t.rows l.k
