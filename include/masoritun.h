@@ -11,7 +11,7 @@
    is rounded: of a million samples of six bands 24 % came back as others (examples/joining.c).
 
    IN A PLUG-IN. Nothing is allocated, locked, kept or global: any thread may call at any time, in an audio callback too. A call takes at
-   most 2,880 bytes of stack (a table's move), mst_split 1,152, a kernel 416 (tools/stack). Link the archive with
+   most 2,880 bytes of stack (a table's move), mst_split 1,136, a kernel 352 (tools/stack). Link the archive with
    -Wl,--exclude-libs,ALL, so that the plug-in does not export mst_ names of its own to the host.
 
    WHAT IS LENT. A slice is a pointer and a length in elements. Lent slices must not overlap: what a call writes must lie apart

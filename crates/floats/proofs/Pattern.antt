@@ -31,6 +31,9 @@ pub nan_test : (x : Float) → ne x x ≡ is_nan x
 unfolding ne
 nan_test x = ap not (number_test x) ∙ not-not (is_nan x)
 
+pub is_nan_law : (x : Float) → ne x x ≡ true → x ≡ nan
+is_nan_law x h = nan_only x (sym (nan_test x) ∙ h)
+
 -- a pattern whose low 23 bits are zero is no NaN's
 pub low_zero : (n : ℕ) → n % 2 ^ 23 ≡ 0 → T (not (nan_bits binary32 n))
 unfolding nan_bits

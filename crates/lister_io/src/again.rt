@@ -1,8 +1,11 @@
 // A table read a second time: judged at the first reading and shown at the second, each block judged again before its lines.
-ghost use Rattle.std.specs.Prelude.{◌≡◌, ◌-◌, ◌<◌, length};
+ghost use Rattle.std.specs.Prelude.{◌≡◌, ◌-◌, ◌<◌, length, Ok};
 ghost use Rattle.std.specs.Result.{IfOk};
+ghost use Rattle.answer.specs.Answer.{judged};
 ghost use Rattle.block.specs.Block.{blocks};
 ghost use Rattle.block.specs.Kind.{left_out};
+ghost use Rattle.block.specs.Read.{bytes_from, block_tests_by};
+ghost use Rattle.table.specs.Release.{rules_of};
 
 use crate::listing::Listing;
 use answer::Refusal;
@@ -20,7 +23,8 @@ fn next_block<R: Read>(
     block: &mut [u8],
 ) -> Result<Layout, Refusal>
     requires { length block.old ≡ 512 }
-    ensures { IfOk result (λ t. k < blocks (t.bands - left_out t.form) t.rows) }
+    ensures judged { IfOk result (λ t. (t.form ≡ j.form) × (t.bands ≡ j.bands) × (t.rows ≡ j.rows) × (Ok tt ≡ judged (block_tests_by (rules_of j.form) j.bands j.rows (bytes_from block.new 0) k))) }
+    ensures in_table { IfOk result (λ t. k < blocks (t.bands - left_out t.form) t.rows) }
 {
     if read_full(from, block) != 512 {
         return Err(Refusal::StoredLength);

@@ -2,7 +2,7 @@
 use Prim.Native.Nat.{ℕ, ◌+◌, ◌<◌}
 use mathlib.Core.Path.{◌≡◌, refl, sym, ap}
 use mathlib.Core.List.{List, [], ◌∷◌, map}
-use lib.ListN.{length, get_or, set, take, drop}
+use lib.ListN.{length, get_or, set, take, drop, replicate}
 use Rattle.std.specs.List.{All, AllZip}
 use native.Mathlib.Omega.{arith}
 use Rattle.std.proofs.lemmas.Grind.{common_steps}
@@ -32,3 +32,17 @@ zip_map R f [] [] h z = refl
 zip_map R f [] (y ∷ ys) h z = absurd z
 zip_map R f (x ∷ xs) [] h z = absurd z
 zip_map R f (x ∷ xs) (y ∷ ys) h z = rw (h x y z.0) (ap (λ l. f x ∷ l) (zip_map R f xs ys h z.1))
+
+-- each value is the element itself, or one and the same
+pub zip_copy : {A : Type 0} (R : A → A → Type 0) (xs ys : List A) → ((x y : A) → R x y → y ≡ x) → AllZip R xs ys → ys ≡ xs
+zip_copy R [] [] h z = refl
+zip_copy R [] (y ∷ ys) h z = absurd z
+zip_copy R (x ∷ xs) [] h z = absurd z
+zip_copy R (x ∷ xs) (y ∷ ys) h z = rw (h x y z.0) (ap (λ l. x ∷ l) (zip_copy R xs ys h z.1))
+
+pub zip_same : {A B : Type 0} (R : A → B → Type 0) (v : B) (xs : List A) (ys : List B) → ((x : A) (y : B) → R x y → y ≡ v) → AllZip R xs ys
+    → ys ≡ replicate (length xs) v
+zip_same R v [] [] h z = refl
+zip_same R v [] (y ∷ ys) h z = absurd z
+zip_same R v (x ∷ xs) [] h z = absurd z
+zip_same R v (x ∷ xs) (y ∷ ys) h z = rw (h x y z.0) (ap (λ l. v ∷ l) (zip_same R v xs ys h z.1))

@@ -13,6 +13,7 @@ use answer::{Answer, Refusal};
 use block::form::Form;
 use block::layout::Layout;
 use block::store::write_block;
+use lists::each::map_into;
 use rows::copying::copy_rows;
 use table::judge::table;
 
@@ -59,7 +60,8 @@ pub fn to_form(form: Form, bytes: &[u8], res: &mut [u8]) -> Answer
         return Err(Refusal::StoredLength);
     }
     if from.form == form {
-        res.copy_from_slice(bytes);
+        // A slice's own copy needs `memmove` from outside.
+        map_into(|x| x, bytes, res);
         return Ok(());
     }
     move_all(from, to, bytes, res);

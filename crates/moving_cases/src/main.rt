@@ -6,7 +6,7 @@ use answer::limits::TABLE_LIMIT;
 use answer::{number, place};
 use block::form::Form;
 use block::word::word_at;
-use moving::{length_in, to_form};
+use moving::{length_in, to_form_1, to_form_2};
 use std::fs::File;
 use std::io;
 use std::io::Write;
@@ -35,7 +35,10 @@ const TABLES: [&str; 18] = [
 ];
 
 fn tell<W: Write>(form: Form, bytes: &[u8], res: &mut [u8], out: &mut W) -> io::Result<()> {
-    let answer = to_form(form, bytes, res);
+    let answer = match form {
+        Form::One => to_form_1(bytes, res),
+        Form::Two => to_form_2(bytes, res),
+    };
     let (form, number, place) = (form.number(), number(answer), place(answer));
     writeln!(out, "{form} {number} {place}")?;
     if answer.is_ok() {

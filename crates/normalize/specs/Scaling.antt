@@ -1,10 +1,9 @@
 -- The same of a `Scaling`, which holds the settings and the slices that may be absent. For the code.
-use Rattle.std.specs.Prelude.{ℕ, ◌≡◌, ◌<◌, Bool, true, false, ◌&&◌, List, length, Float, Option, MatchOption, is_some}
-use Rattle.std.specs.Float.Ieee.Scale.{finite}
+use Rattle.std.specs.Prelude.{ℕ, ◌≡◌, ◌<◌, Bool, true, false, List, length, Float, Option, MatchOption, is_some}
 use Rattle.floats.specs.Values.{zero_f, one_f}
 use Rattle.answer.specs.Answer.{Test}
 use Rattle.normalize.specs.declared.scaling.Scaling.{Scaling}
-use Rattle.normalize.specs.Normalize.{norm_of, list_of, pick_at, finite_in, finite_all, result_at, results, result_number, tests, Fitted}
+use Rattle.normalize.specs.Normalize.{norm_of, list_of, pick_at, finite_all, result_at, results, result_number, tests, Fitted}
 
 -- `post i b` says that a test may answer b at i. It passes at every place below n; or at i it does not, and at all before it does.
 unfoldable pub FirstAt : (ℕ → Bool → Type 0) → ℕ → Option ℕ → Type 0
@@ -27,10 +26,6 @@ module _ (by : Scaling) where
   value_of i x =
       norm_of by.settings (is_some by.element_scale) (pick_at (is_some by.element_scale) (list_of by.element_scale) i one_f) (is_some by.element_bias)
       (pick_at (is_some by.element_bias) (list_of by.element_bias) i zero_f) x
-
-  abbrev pub finite_by : ℕ → Float → Bool
-  finite_by i x =
-      finite x && (finite_in (is_some by.element_scale) (list_of by.element_scale) i && finite_in (is_some by.element_bias) (list_of by.element_bias) i)
 
   -- and of the data s
   abbrev pub result_by : List Float → ℕ → Float

@@ -64,7 +64,7 @@ pub fn normalize(
         element_scale,
         element_bias,
     };
-    judge(by, src)?;
+    judge(&by, src)?;
     fill(by, src, dst);
     Ok(())
 }
@@ -88,7 +88,7 @@ pub fn normalize_in_place(
         element_scale,
         element_bias,
     };
-    judge(by, buf)?;
+    judge(&by, buf)?;
     fill_in_place(by, buf);
     Ok(())
 }

@@ -3,11 +3,10 @@ ghost use Rattle.std.specs.Prelude.{◌≡◌, true, ◌<◌, is_some, length};
 ghost use Rattle.std.specs.Float.{binary32};
 ghost use Rattle.std.specs.Float.Ieee.{add, mul};
 ghost use Rattle.floats.specs.Floats.{mul_add};
-ghost use Rattle.normalize.specs.Normalize.{finite_in, unfit_of, list_of};
-ghost use Rattle.normalize.specs.Scaling.{Reaches, value_of, finite_by};
+ghost use Rattle.normalize.specs.Normalize.{unfit_of, list_of};
+ghost use Rattle.normalize.specs.Scaling.{Reaches, value_of};
 
 use crate::Settings;
-use floats::bits::is_finite;
 
 #[derive(Clone, Copy)]
 pub struct Scaling<'a> {
@@ -21,14 +20,6 @@ pub fn unfit(s: Option<&[f32]>, n: usize) -> bool
     ensures { result ≡ unfit_of (is_some s.entry) (length (list_of s.entry)) n }
 {
     s.is_some_and(|s| s.len() != n)
-}
-
-// Absent, or finite at i.
-fn finite_in(s: Option<&[f32]>, i: usize) -> bool
-    requires { is_some s ≡ true → i < length (list_of s) }
-    ensures { result ≡ finite_in (is_some s.entry) (list_of s.entry) i }
-{
-    s.is_none_or(|s| is_finite(s[i]))
 }
 
 impl Settings {
@@ -55,13 +46,5 @@ impl<'a> Scaling<'a> {
             (None, Some(eb)) => st.full(1.0, eb[i], y),
             (Some(es), Some(eb)) => st.full(es[i], eb[i], y),
         }
-    }
-
-    // Whether x and what is in use beside it are finite.
-    pub fn finite_at(self, i: usize, x: f32) -> bool
-        requires { Reaches self i }
-        ensures { result ≡ finite_by self.entry i x }
-    {
-        is_finite(x) && finite_in(self.element_scale, i) && finite_in(self.element_bias, i)
     }
 }

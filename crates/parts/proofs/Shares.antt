@@ -55,20 +55,24 @@ key_ahead r i s j l m =
     (λ p. by_lt j i (λ q e. omega arith) (λ q e. omega arith))
     ∙ sym (ahead_is r i s j)
 
-module _ (N : ℕ) (a ks : List ℕ) (few : length a ≤ most) (keyed : ks ≡ tab (key N a) (length a)) where
-  key_at : (i : ℕ) → i < length a → at ks i ≡ key N a i
-  key_at i h = ap (λ l. at l i) keyed ∙ tab_at (key N a) (length a) i 0 h
+-- the rank, by a list that holds the keys
+rank_by : (N : ℕ) (a ks : List ℕ) → length a ≤ most → ((k : ℕ) → k < length a → at ks k ≡ key N a k) → (i : ℕ) → i < length a
+    → sum_to (above_in ks i) (length a) ≡ rank N a i
+unfolding rank above_in
+rank_by N a ks few h i l =
+    sum_same _ _ (length a) (λ j m. ap₂ lt1 (h i l) (h j m) ∙ key_ahead (remainder N a i) i (remainder N a j) j (omega arith) (omega arith))
 
-  -- the rank, by the list of the keys
-  rank_by : (i : ℕ) → i < length a → sum_to (above_in ks i) (length ks) ≡ rank N a i
-  unfolding rank above_in
-  rank_by i h =
-      ap (sum_to (above_in ks i)) (ap length keyed ∙ tab_length (key N a) (length a))
-      ∙ sum_same _ _ (length a) (λ j l.
-      ap₂ lt1 (key_at i h) (key_at j l) ∙ key_ahead (remainder N a i) i (remainder N a j) j (omega arith) (omega arith))
+-- the gain, by such a list: the whole part q, the rank k and the parts left over l
+pub gain_is : (N : ℕ) (a ks : List ℕ) → length a ≤ most → ((k : ℕ) → k < length a → at ks k ≡ key N a k) → (i : ℕ) → i < length a
+    → {q k l : ℕ} → q ≡ share N a i → k ≡ sum_to (above_in ks i) (length a) → l ≡ N - sum_to (share N a) (length a) → q + lt1 k l ≡ gain N a i
+unfolding gain left
+gain_is N a ks few h i m e r f = ap₂ ◌+◌ e (ap₂ lt1 (r ∙ rank_by N a ks few h i m) f)
 
-  -- the gain, from what the code has at hand: the whole part q, the rank k and the parts left over l
-  pub gain_is : (i : ℕ) → i < length a → {q k l : ℕ} → q ≡ share N a i → k ≡ sum_to (above_in ks i) (length ks)
-      → l ≡ sum_to (share N a) (length a) → q + bool_byte (ltb k (N - l)) ≡ gain N a i
-  unfolding gain left lt1
-  gain_is i h {k} {l} e r f = ap₂ ◌+◌ e (as_bit (ltb k (N - l)) ∙ ap₂ lt1 (r ∙ rank_by i h) (ap (λ u. N - u) f))
+-- the gain, from what the code has at hand: the keys as a list of their own, and l the sum of the whole parts
+pub gain_made : (N : ℕ) (a ks : List ℕ) → length a ≤ most → ks ≡ tab (key N a) (length a) → (i : ℕ) → i < length a → {q k l : ℕ} → q ≡ share N a i
+    → k ≡ sum_to (above_in ks i) (length ks) → l ≡ sum_to (share N a) (length a) → q + bool_byte (ltb k (N - l)) ≡ gain N a i
+unfolding lt1
+gain_made N a ks few keyed i h {q} {k} {l} e r f =
+    ap (λ u. q + u) (as_bit (ltb k (N - l)))
+    ∙ gain_is N a ks few (λ j m. ap (λ u. at u j) keyed ∙ tab_at (key N a) (length a) j 0 m) i h e
+    (r ∙ ap (sum_to (above_in ks i)) (ap length keyed ∙ tab_length (key N a) (length a))) (ap (λ u. N - u) f)

@@ -90,7 +90,8 @@ pub fn softmax(flush: bool, src: &[f32], dst: &mut [f32]) -> Answer
     }
     judge(flush, src)?;
     if all_masked(src) {
-        dst.fill(0.0);
+        // A slice's own `fill` takes 16 bytes of stack more.
+        each::map_in_place(|_x| 0.0, dst);
         return Ok(());
     }
     let max = max(src);
@@ -106,7 +107,7 @@ pub fn softmax_in_place(flush: bool, buf: &mut [f32]) -> Answer
 {
     judge(flush, buf)?;
     if all_masked(buf) {
-        buf.fill(0.0);
+        each::map_in_place(|_x| 0.0, buf);
         return Ok(());
     }
     let max = max(buf);

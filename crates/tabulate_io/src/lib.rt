@@ -1,6 +1,8 @@
 // What the programs over `tabulate_core` share: levels from a reader, the table to standard output, and the line of a refusal to a writer of its own.
 #![tactic(auto)]
 
+ghost use Rattle.std.specs.Prelude.{◌≤◌, length};
+
 use answer::limits::{LEVEL_LIMIT, TABLE_LIMIT};
 use digits::Text;
 use lister_core::put_refused;
@@ -17,7 +19,9 @@ fn show_stop<V: Write>(stop: Stop, refusals: &mut V) {
 }
 
 // The bytes read; none where the word names no bands, so that its refusal is told at once.
-fn read_levels<'a, R: Read>(from: &mut R, word: &[u8], input: &'a mut [u8]) -> &'a [u8] {
+fn read_levels<'a, R: Read>(from: &mut R, word: &[u8], input: &'a mut [u8]) -> &'a [u8]
+    ensures { length result.now ≤ length input.old }
+{
     if bands_in(word).is_none() {
         return &[];
     }

@@ -5,7 +5,7 @@ use native.Mathlib.Omega.{arith}
 use Rattle.lists.proofs.Placed.{filled_more, filled_all}
 use Rattle.parts.specs.Parts.{gains_over}
 use Rattle.parts.proofs.Bits.{byte_small}
-use Rattle.parts.proofs.Shares.{shares_fit, share_fits, shares_length, shares_at, gain_is}
+use Rattle.parts.proofs.Shares.{shares_fit, share_fits, shares_length, shares_at, gain_made}
 use Rattle.parts.proofs.part.Goals as goal
 
 pub overflow_sub-left : goal.overflow_sub-left
@@ -27,7 +27,7 @@ loop-i-preserved c =
     let holds = c.loop-i.invariant.high i (le_refl i) ∙ shares_at c.args.parts c.args.a.now c.requires.2 w.gains i (omega arith) in
     filled_more _ c.loop-i.gains i c.loop-i.invariant _ (omega arith)
     (ap (λ x. get_or c.loop-i.gains i 0 + x) c.from.ensures
-    ∙ gain_is c.args.parts c.args.a.now c.whole.new.keys c.requires.0 w.keys i (omega arith) holds c.rank.ensures w.used)
+    ∙ gain_made c.args.parts c.args.a.now c.whole.new.keys c.requires.0 w.keys i (omega arith) holds c.rank.ensures w.used)
 
 pub returns : goal.returns
 unfolding gains_over

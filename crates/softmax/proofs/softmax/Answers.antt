@@ -7,7 +7,7 @@ use borrow.Author.Tests.{eq-eqb, ne_eqb}
 use Rattle.answer.specs.Answer.{Test}
 use Rattle.answer.specs.declared.Refusal.TheVariants.{Length}
 use Rattle.answer.proofs.Chain.{stop, skip, rest, refuses, finishes}
-use Rattle.lists.proofs.Turns.{zip_map}
+use Rattle.lists.proofs.Turns.{zip_map, zip_same}
 use Rattle.softmax.specs.Softmax.{tests, result_of, exp_less, softmax_answer, in_place_answer}
 use Rattle.softmax.proofs.Maximum.{not_above_at}
 use Rattle.softmax.proofs.Result.{result_clear, result_passes, done_domain}
@@ -36,7 +36,7 @@ pub returns-then-all_masked : goal.returns-then-all_masked
 unfolding softmax_answer in_place_answer
 returns-then-all_masked c =
     let both = finishes {ts = all c.args.flush c.args.src.now c.args.dst.now} (result_of c.args.src.now) c.args.dst.now
-    (result_clear c.args.src.now _ _ (sym c.all_masked.ensures ∙ c.if-all_masked.true) c.if-src-dst.false (c.fill.ensures.after (λ y e. e)))
+    (result_clear c.args.src.now _ _ (sym c.all_masked.ensures ∙ c.if-all_masked.true) c.if-src-dst.false (zip_same _ _ _ _ (λ x y h. search rules) c.map_in_place.ensures))
     (skip (ap not (eq-eqb _ _ c.if-src-dst.false)) (rest (sym c.in_ok-judge.was ∙ c.judge.ensures))) in
     record { told = both.0; written = both.1 }
 

@@ -25,7 +25,7 @@ pub returns-in-Elu : goal.returns-in-Elu
 returns-in-Elu c = mapped _ _ c.in-Elu.is c.map_into-in-Elu.ensures (λ x y h. search rules)
 
 pub returns-in-Tanh : goal.returns-in-Tanh
-returns-in-Tanh c = mapped _ _ c.in-Tanh.is c.map_into-in-Tanh.ensures (λ x y h. h)
+returns-in-Tanh c = mapped _ _ c.in-Tanh.is c.map_into-in-Tanh.ensures (λ x y h. search rules)
 
 pub returns-in-Erf : goal.returns-in-Erf
 returns-in-Erf c = mapped _ _ c.in-Erf.is c.map_into-in-Erf.ensures (λ x y h. h)

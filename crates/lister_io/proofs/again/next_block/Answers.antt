@@ -12,7 +12,7 @@ invariant_of-result g c =
     let s = good_stores (sound (left_out j.form) (left_out_small j.form)) (good j.bands j.rows _ _ (sym c.in_ok-block.was ∙ c.block.ensures)) in
     record { stores = s.0 }
 
-pub returns : goal.returns
-returns g c =
+pub returns-clause-in_table : goal.returns-clause-in_table
+returns-clause-in_table g c =
     let j = c.args.j in
     (good_stores (sound (left_out j.form) (left_out_small j.form)) (good j.bands j.rows _ _ (sym c.in_ok-block.was ∙ c.block.ensures))).1

@@ -2,6 +2,8 @@
 use Prim.Native.Nat.{◌<◌}
 use mathlib.Core.Path.{refl, sym, ◌∙◌}
 use native.Mathlib.Omega.{arith}
+use Rattle.std.proofs.Common.{rules}
+use Rattle.lists.proofs.Turns.{zip_copy}
 use Rattle.block.specs.Kind.{left_out}
 use Rattle.block.proofs.Tests.{same_left, other_left}
 use Rattle.moving.proofs.Moved.{few_refuse, room_refuses, move_done, moved_copy, moved_is, move_refuses, move_finishes}
@@ -30,7 +32,7 @@ returns-then-eq c =
     let some : d < c.in_ok-from.from.bands = omega (arith, c.left_out.ensures, c.if-from-left_out.false) in
     let done = move_done d c.args.bytes.now _ _ _ c.in_ok-from.ensures.told k.bands k.rows some _ refl (c.if-res-length.false ∙ c.length.ensures) in
     let both = move_finishes d c.args.bytes.now c.args.res.now _
-    (moved_copy d _ _ c.in_ok-from.ensures.known.1 (same_left _ _ (sym c.eq.ensures ∙ c.if-eq.true)) _ c.copy_from_slice.ensures.after) done in
+    (moved_copy d _ _ c.in_ok-from.ensures.known.1 (same_left _ _ (sym c.eq.ensures ∙ c.if-eq.true)) _ (zip_copy _ _ _ (λ x y h. search rules) c.map_into.ensures)) done in
     record { told = both.0; written = both.1 }
 
 pub returns : goal.returns
