@@ -23,7 +23,8 @@ fn next_block<R: Read>(
     block: &mut [u8],
 ) -> Result<Layout, Refusal>
     requires { length block.old ≡ 512 }
-    ensures judged { IfOk result (λ t. (t.form ≡ j.form) × (t.bands ≡ j.bands) × (t.rows ≡ j.rows) × (Ok tt ≡ judged (block_tests_by (rules_of j.form) j.bands j.rows (bytes_from block.new 0) k))) }
+    ensures judged { IfOk result (λ t. (t.form ≡ j.form) × (t.bands ≡ j.bands) × (t.rows ≡ j.rows)
+        × (Ok tt ≡ judged (block_tests_by (rules_of j.form) j.bands j.rows (bytes_from block.new 0) k))) }
     ensures in_table { IfOk result (λ t. k < blocks (t.bands - left_out t.form) t.rows) }
 {
     if read_full(from, block) != 512 {
